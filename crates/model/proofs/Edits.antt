@@ -1,0 +1,263 @@
+-- What code does to cells, as what it does to an image's bits: laws for any width, and for any layout with its laws.
+-- Bit b of cell c is bit c * w + b of the image.
+use mathlib.Core.Path.{_≡_, refl, sym, ap, ap₂, _∙_}
+use mathlib.Core.Bool.{Bool, true, false, not, _&&_, _||_, and-true, or-false, or-comm}
+use mathlib.Core.List.{List}
+use Prim.Native.Nat.{ℕ, _+_, _-_, _*_, _/_, _%_, _^_, _<_, zero, suc}
+use native.Mathlib.Nat.{div-add-mod', div-lt-iff-lt-mul}
+use native.Mathlib.Omega.{arith}
+use borrow.Author.Tests.{eqb-true, eqb-false, eq-eqb, ne-eqb, ltb-true, ltb-false, le-leb}
+use lib.ListN.{length, getD, set, length-set}
+use lib.Seq.{getD-set-same, getD-set-other}
+use lib.Arith.{digits-div, digits-mod}
+use lib.Dec.{eqb, ltb}
+use Rattle.model.specs.Sets.{any, tabulate}
+use Rattle.model.specs.Bits.{bit, withBit, withoutBit}
+use Rattle.model.specs.Journal.{grant}
+use Rattle.model.specs.Cells.{at, image}
+use Rattle.model.specs.Unit.{Layout, lists, rows, liveIn, grantBit, build, held, after, freshImage}
+use Rattle.model.proofs.Sets.{iff, fst, snd, both, by-cases}
+use Rattle.model.proofs.Indexed.{length-tabulate}
+use Rattle.model.proofs.Bits.{bit-of-zero, bit-with, bit-without, with-lt, without-lt}
+use Rattle.model.proofs.Cells.{at-image, ext-at, image-lt, length-image}
+use Rattle.model.proofs.Invariant.{ranged}
+use Rattle.model.proofs.Unit.{Laws, build-cong, lists-laws, rows-laws}
+use lib.Pow.{pow-pos}
+use Rattle.model.specs.declared.Command.the-variants.{Create, Delete, Allow, Withdraw}
+
+-- each cell has w bits
+abbrev pub Cells : ℕ → List ℕ → Type 0
+Cells w s = (i : ℕ) → i < length s → getD s i 0 < 2 ^ w
+
+-- cell c with bit b, and without it
+abbrev pub marked : List ℕ → ℕ → ℕ → List ℕ
+marked s c b = set s c (withBit (getD s c 0) b)
+
+abbrev pub cleared : List ℕ → ℕ → ℕ → List ℕ
+cleared s c b = set s c (withoutBit (getD s c 0) b)
+
+-- cells of 0
+blanks : ℕ → List ℕ
+blanks n = tabulate n (λ (i : ℕ). 0)
+
+blank : (n i : ℕ) → getD (blanks n) i 0 ≡ 0
+unfolding blanks tabulate
+blank zero i = refl
+blank (suc n) zero = refl
+blank (suc n) (suc i) = blank n i
+
+-- ---- one bit of an image
+at-none : (w : ℕ) (z : List ℕ) → ((i : ℕ) → getD z i 0 ≡ 0) → (k : ℕ) → at w z k ≡ false
+unfolding at
+at-none w z o k = rw (o (k / w)) (bit-of-zero (k % w))
+
+module _ (w : ℕ) (pos : 0 < w) where
+  -- a list of cells is the image of its bits
+  pub image-is : (s : List ℕ) (n : ℕ) (f : ℕ → Bool) → length s ≡ n → Cells w s → ((k : ℕ) → k < n * w → at w s k ≡ f k) → s ≡ image w n f
+  image-is s n f l h e =
+      ext-at w pos s (image w n f) (l ∙ sym (length-image w n f)) h (λ i b. image-lt w pos n f i (rw l at b))
+      (λ k b. let c : k < n * w = rw l at b in e k c ∙ sym (at-image w pos n f k c))
+
+  pub cells-set : (s : List ℕ) (j v : ℕ) → Cells w s → v < 2 ^ w → Cells w (set s j v)
+  cells-set s j v h l i b =
+      by-cases (eqb i j)
+      (λ t. let q : i ≡ j = eqb-true i j t in
+      let c : i < length s = rw (length-set s j v) at b in
+      rw (q, getD-set-same s j v 0 (rw q at c)) l)
+      (λ t. rw (getD-set-other s j i v 0 (eqb-false i j t)) (h i (rw (length-set s j v) at b)))
+
+  module _ (s : List ℕ) (c b : ℕ) (k : b < w) where
+    pub at-cell : at w s (c * w + b) ≡ bit (getD s c 0) b
+    unfolding at
+    at-cell = rw (digits-div c k, digits-mod c k)
+
+    -- the same for the bit's number in the image
+    pub cell-bit : (i : ℕ) → i ≡ c * w + b → at w s i ≡ bit (getD s c 0) b
+    cell-bit i e = ap (at w s) e ∙ at-cell
+
+    -- bit i is the one, where its cell is c
+    same-bit : (i : ℕ) → i / w ≡ c → eqb (i % w) b ≡ eqb i (c * w + b)
+    same-bit i q =
+        iff (eqb (i % w) b) (eqb i (c * w + b)) (λ e. eq-eqb i (c * w + b) (sym (div-add-mod' i w) ∙ ap₂ (λ (x y : ℕ). x * w + y) q (eqb-true (i % w) b e)))
+        (λ e. eq-eqb (i % w) b (ap (λ (x : ℕ). x % w) (eqb-true i (c * w + b) e) ∙ digits-mod c k))
+
+    other-bit : (i : ℕ) → (i / w ≡ c → ⊥) → eqb i (c * w + b) ≡ false
+    other-bit i n = ne-eqb i (c * w + b) (λ e. n (ap (λ (x : ℕ). x / w) e ∙ digits-div c k))
+
+    pub at-marked : (i : ℕ) → c < length s → at w (marked s c b) i ≡ at w s i || eqb i (c * w + b)
+    unfolding at
+    at-marked i h =
+        by-cases (eqb (i / w) c)
+        (λ t. let q : i / w ≡ c = eqb-true (i / w) c t in
+        rw (← (same-bit i q), q, getD-set-same s c (withBit (getD s c 0) b) 0 h) (bit-with (getD s c 0) b (i % w)))
+        (λ t. let n : i / w ≡ c → ⊥ = eqb-false (i / w) c t in
+        rw (getD-set-other s c (i / w) (withBit (getD s c 0) b) 0 n, other-bit i n) (sym (or-false _)))
+
+    pub at-cleared : (i : ℕ) → c < length s → at w (cleared s c b) i ≡ at w s i && not (eqb i (c * w + b))
+    unfolding at
+    at-cleared i h =
+        by-cases (eqb (i / w) c)
+        (λ t. let q : i / w ≡ c = eqb-true (i / w) c t in
+        rw (← (same-bit i q), q, getD-set-same s c (withoutBit (getD s c 0) b) 0 h) (bit-without (getD s c 0) b (i % w)))
+        (λ t. let n : i / w ≡ c → ⊥ = eqb-false (i / w) c t in
+        rw (getD-set-other s c (i / w) (withoutBit (getD s c 0) b) 0 n, other-bit i n) (sym (and-true _)))
+
+    pub cells-marked : c < length s → Cells w s → Cells w (marked s c b)
+    cells-marked h f = cells-set s c _ f (with-lt w (getD s c 0) b (f c h) k)
+
+    pub cells-cleared : c < length s → Cells w s → Cells w (cleared s c b)
+    cells-cleared h f = cells-set s c _ f (without-lt w (getD s c 0) b (f c h))
+
+-- ---- the commands
+pub in-range : (p o r d : ℕ) → p < 64 → o < 64 → r < 8 → d < 8 → ranged (grant p o r d) ≡ true
+in-range p o r d a b e f = both (both (le-leb p 63 (omega arith)) (le-leb o 63 (omega arith))) (both (le-leb r 7 (omega arith)) (le-leb d 7 (omega arith)))
+
+-- what lists and rows keep besides: a place has no depth, and every place is of a grant within the limits
+pub record Flat (L : Layout) : Type 0 where
+  pub laws : Laws L
+  pub depthless : (p o r d : ℕ) → L .place (grant p o r d) ≡ L .place (grant p o r 0)
+  pub onto : (k : ℕ) → k < L .size → L .place (grant (L .person k) (L .item k) (L .right k) 0) ≡ k
+  pub within : (k : ℕ) → k < L .size → ranged (grant (L .person k) (L .item k) (L .right k) 0) ≡ true
+
+pub lists-flat : Flat lists
+unfolding lists
+lists-flat = record {
+  laws = lists-laws;
+  depthless = λ p o r d. refl;
+  onto = λ k h. omega arith;
+  within = λ k h. in-range (k % 64) (k / 512) (k / 64 % 8) 0 (omega arith) (omega arith) (omega arith) (omega arith);
+}
+
+pub rows-flat : Flat rows
+unfolding rows
+rows-flat = record {
+  laws = rows-laws;
+  depthless = λ p o r d. refl;
+  onto = λ k h. omega arith;
+  within = λ k h. in-range (k / 512) (k / 8 % 64) (k % 8) 0 (omega arith) (omega arith) (omega arith) (omega arith);
+}
+
+shifted : (i p : ℕ) → eqb (64 + i) (64 + p) ≡ eqb p i
+shifted i p = iff _ _ (λ z. let q = eqb-true (64 + i) (64 + p) z in eq-eqb p i (omega arith)) (λ z. let q = eqb-true p i z in eq-eqb (64 + i) (64 + p) (omega arith))
+
+module _ (L : Layout) (W : Laws L) where
+  -- cells with the live set f and the places g
+  pub build-is : (t : List ℕ) (f g : ℕ → Bool) → length t ≡ L .cells → Cells (L .width) t → ((i : ℕ) → i < 64 → liveIn L t i ≡ f i)
+      → ((k : ℕ) → k < L .size → grantBit L t k ≡ g k) → t ≡ build L f g
+  unfolding build
+  build-is t f g l h e d =
+      image-is (L .width) (W .wide) t (L .cells) _ l h
+      (λ k b. by-cases (ltb k 64) (λ c. rw c (e k (ltb-true k 64 c)))
+      (λ c. let m = ltb-false k 64 c in
+      let z : 64 + (k - 64) ≡ k = omega arith in
+      rw c (ap (at (L .width) t) (sym z) ∙ d (k - 64) (omega (arith, W .fits)))))
+
+  cell-lt : (s : List ℕ) (c b p : ℕ) → length s ≡ L .cells → p < 64 + L .size → p ≡ c * L .width + b → b < L .width → c < length s
+  cell-lt s c b p l h e k =
+      let q : p / L .width ≡ c = rw e (digits-div c k) in
+      rw (l, ← q) (div-lt-iff-lt-mul (W .wide) .1 (omega (arith, W .fits)))
+
+  -- what p holds, in a layout without depth: one bit
+  pub held-is : Flat L → (s : List ℕ) (p o r c b : ℕ) → b < L .width → 64 + L .place (grant p o r 0) ≡ c * L .width + b → held L s p o r ≡ bit (getD s c 0) b
+  unfolding any
+  held-is F s p o r c b k e =
+      simp (F .depthless) (same (grantBit L s (L .place (grant p o r 0))) ∙ ap (at (L .width) s) e ∙ at-cell (L .width) (W .wide) s c b k)
+    where
+      same : (x : Bool) → x || (x || (x || (x || (x || (x || (x || (x || false))))))) ≡ x
+      same true = refl
+      same false = refl
+
+  -- create: the item's bit of the live set, then an edit grant to by
+  pub create-is : (s : List ℕ) → length s ≡ L .cells → (a by on c b : ℕ) → on < 64 → b < L .width → on ≡ c * L .width + b
+      → after L (marked s c b) (Allow a by on 0 0) ≡ after L s (Create by on)
+  create-is s l a by on c b o k e =
+      let j : c < length s = cell-lt s c b on l (omega arith) e k in
+      let m : (i : ℕ) → at (L .width) (marked s c b) i ≡ at (L .width) s i || eqb i on = λ i. rw e (at-marked (L .width) (W .wide) s c b k i j) in
+      build-cong L W _ _ _ _ (λ i u. m i ∙ or-comm (liveIn L s i) (eqb i on))
+      (λ i u. ap (λ x. eqb (L .place (grant by on 0 0)) i || x) (m (64 + i) ∙ rw (ne-eqb (64 + i) on (λ z. omega arith)) (or-false _)))
+
+  module _ (s : List ℕ) (l : length s ≡ L .cells) (h : Cells (L .width) s) where
+    -- allow: the bit of its grant
+    pub allow-is : (by to on right depth c b : ℕ) → to < 64 → on < 64 → right < 8 → depth < 8 → b < L .width
+        → 64 + L .place (grant to on right depth) ≡ c * L .width + b → marked s c b ≡ after L s (Allow by to on right depth)
+    allow-is by to on right depth c b t o r d k e =
+        let p = W .below (grant to on right depth) (in-range to on right depth t o r d) in
+        let j : c < length s = cell-lt s c b _ l (omega arith) e k in
+        build-is (marked s c b) _ _ (length-set s _ _ ∙ l) (cells-marked (L .width) (W .wide) s c b k j h)
+        (λ i u. at-marked (L .width) (W .wide) s c b k i j ∙ rw (ne-eqb i (c * L .width + b) (λ z. omega arith)) (or-false _))
+        (λ i u. at-marked (L .width) (W .wide) s c b k (64 + i) j ∙ rw (← e) (or-comm (grantBit L s i) (eqb (64 + i) (64 + L .place (grant to on right depth))) ∙ ap (λ x. x || grantBit L s i) (shifted i (L .place (grant to on right depth)))))
+
+    -- withdraw, in a layout without depth: the bit of its grant
+    pub withdraw-is : Flat L → (by to on right c b : ℕ) → to < 64 → on < 64 → right < 8 → b < L .width
+        → 64 + L .place (grant to on right 0) ≡ c * L .width + b → cleared s c b ≡ after L s (Withdraw by to on right)
+    withdraw-is F by to on right c b t o r k e =
+        let g : ranged (grant to on right 0) ≡ true = in-range to on right 0 t o r (omega arith) in
+        let p = W .below (grant to on right 0) g in
+        let j : c < length s = cell-lt s c b _ l (omega arith) e k in
+        build-is (cleared s c b) _ _ (length-set s _ _ ∙ l) (cells-cleared (L .width) (W .wide) s c b k j h)
+        (λ i u. at-cleared (L .width) (W .wide) s c b k i j ∙ rw (ne-eqb i (c * L .width + b) (λ z. omega arith)) (and-true _))
+        (λ i u. at-cleared (L .width) (W .wide) s c b k (64 + i) j ∙ rw (← e) (ap (λ x. grantBit L s i && not x) (about i g u)))
+      where
+        about : (i : ℕ) → ranged (grant to on right 0) ≡ true → i < L .size
+            → eqb (64 + i) (64 + L .place (grant to on right 0)) ≡ eqb (L .person i) to && eqb (L .item i) on && eqb (L .right i) right
+        about i g u =
+            iff _ _
+            (λ z. let q : i ≡ L .place (grant to on right 0) = (let y = eqb-true (64 + i) (64 + L .place (grant to on right 0)) z in omega arith) in
+            both (both (eq-eqb _ _ (ap (L .person) q ∙ W .person-of _ g)) (eq-eqb _ _ (ap (L .item) q ∙ W .item-of _ g))) (eq-eqb _ _ (ap (L .right) q ∙ W .right-of _ g)))
+            (λ z. let x : L .person i ≡ to = eqb-true _ _ (fst _ (eqb (L .item i) on) (fst _ (eqb (L .right i) right) z)) in
+            let y : L .item i ≡ on = eqb-true _ _ (snd (eqb (L .person i) to) _ (fst _ (eqb (L .right i) right) z)) in
+            let v : L .right i ≡ right = eqb-true _ _ (snd (eqb (L .person i) to && eqb (L .item i) on) _ z) in
+            let q : i ≡ L .place (grant to on right 0) = sym (F .onto i u) ∙ ap (L .place) (let q : grant (L .person i) (L .item i) (L .right i) 0 ≡ grant to on right 0 = cc in q) in
+            eq-eqb (64 + i) (64 + L .place (grant to on right 0)) (ap (λ (n : ℕ). 64 + n) q))
+
+    -- delete: any cells with every bit but those that name the item
+    pub delete-is : (t : List ℕ) (by on : ℕ) → length t ≡ L .cells → Cells (L .width) t
+        → ((i : ℕ) → i < 64 → liveIn L t i ≡ liveIn L s i && not (eqb i on))
+        → ((k : ℕ) → k < L .size → grantBit L t k ≡ grantBit L s k && not (eqb (L .person k) on || eqb (L .item k) on))
+        → t ≡ after L s (Delete by on)
+    delete-is t by on m f e d = build-is t _ _ m f e d
+
+  -- a fresh unit: any cells with the root item's bit and its edit grant
+  pub fresh-is : (t : List ℕ) → length t ≡ L .cells → Cells (L .width) t → ((i : ℕ) → i < 64 → liveIn L t i ≡ eqb i 0)
+      → ((k : ℕ) → k < L .size → grantBit L t k ≡ eqb (L .place (grant 0 0 0 0)) k) → t ≡ freshImage L
+  unfolding freshImage
+  fresh-is t l h e d = build-is t _ _ l h e d
+
+  -- cells of 0 with the root item's bit, then its edit grant
+  pub fresh-marks : (z : List ℕ) (c b : ℕ) → length z ≡ L .cells → ((i : ℕ) → getD z i 0 ≡ 0) → b < L .width
+      → 64 + L .place (grant 0 0 0 0) ≡ c * L .width + b → marked (marked z 0 0) c b ≡ freshImage L
+  fresh-marks z c b l o k e =
+      let p = W .below (grant 0 0 0 0) refl in
+      let n : (i : ℕ) → at (L .width) z i ≡ false = λ i. at-none (L .width) z o i in
+      let f : Cells (L .width) z = λ i u. rw (o i) (pow-pos (L .width)) in
+      let i0 : 0 < length z = cell-lt z 0 0 0 l (omega arith) (omega arith) (W .wide) in
+      let i1 : c < length (marked z 0 0) = rw (length-set z 0 (withBit (getD z 0 0) 0)) (cell-lt z c b _ l (omega arith) e k) in
+      let m : (i : ℕ) → at (L .width) (marked (marked z 0 0) c b) i ≡ eqb i 0 || eqb i (64 + L .place (grant 0 0 0 0)) =
+      λ i. at-marked (L .width) (W .wide) (marked z 0 0) c b k i i1
+      ∙ rw (e, at-marked (L .width) (W .wide) z 0 0 (W .wide) i i0, n i) (ap (λ (x : ℕ). eqb i x || eqb i (c * L .width + b)) (let y : 0 * L .width + 0 ≡ 0 = omega arith in y)) in
+      fresh-is _ (length-set (marked z 0 0) _ _ ∙ length-set z _ _ ∙ l)
+      (cells-marked (L .width) (W .wide) (marked z 0 0) c b k i1 (cells-marked (L .width) (W .wide) z 0 0 (W .wide) i0 f))
+      (λ i u. m i ∙ rw (ne-eqb i (64 + L .place (grant 0 0 0 0)) (λ y. omega arith)) (or-false _))
+      (λ i u. m (64 + i) ∙ rw (ne-eqb (64 + i) 0 (λ y. omega arith)) (shifted i (L .place (grant 0 0 0 0))))
+
+  -- the two cells of a fresh unit that are not 0: the live set, and the edit grant of the root item, in cell c
+  module _ (c : ℕ) (n : c ≡ 0 → ⊥) (e : 64 + L .place (grant 0 0 0 0) ≡ c * L .width + 0) where
+    second : (z : List ℕ) → ((i : ℕ) → getD z i 0 ≡ 0) → marked (marked z 0 0) c 0 ≡ set (set z 0 1) c 1
+    unfolding withBit bit
+    second z o = rw (getD-set-other z 0 c (withBit (getD z 0 0) 0) 0 n, o 0, o c)
+
+    pub fresh-cells : (getD (freshImage L) 0 0 ≡ 1) × (getD (freshImage L) c 0 ≡ 1)
+    unfolding blanks
+    fresh-cells =
+        let z : List ℕ = blanks (L .cells) in
+        let l : length z ≡ L .cells = length-tabulate (L .cells) _ in
+        let q : set (set z 0 1) c 1 ≡ freshImage L = sym (second z (blank (L .cells))) ∙ fresh-marks z c 0 l (blank (L .cells)) (W .wide) e in
+        let i0 : 0 < length z = cell-lt z 0 0 0 l (omega arith) (omega arith) (W .wide) in
+        let i1 : c < length (set z 0 1) = rw (length-set z 0 1) (cell-lt z c 0 _ l (omega (arith, W .below (grant 0 0 0 0) refl)) e (W .wide)) in
+        (rw (← q) (getD-set-other (set z 0 1) c 0 1 0 (λ y. n (sym y)) ∙ getD-set-same z 0 1 0 i0), rw (← q) (getD-set-same (set z 0 1) c 1 0 i1))
+
+    -- the same written over cells of 0
+    pub fresh-written : (z : List ℕ) (x y : ℕ) → length z ≡ L .cells → ((i : ℕ) → getD z i 0 ≡ 0)
+        → x ≡ getD (freshImage L) 0 0 → y ≡ getD (freshImage L) c 0 → set (set z 0 x) c y ≡ freshImage L
+    fresh-written z x y l o f g =
+        rw (f ∙ fresh-cells .0, g ∙ fresh-cells .1) (sym (second z o) ∙ fresh-marks z c 0 l o (W .wide) e)

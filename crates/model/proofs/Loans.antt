@@ -1,0 +1,303 @@
+-- The loans of a journal as rising words.
+use mathlib.Core.Path.{_≡_, refl, sym, ap, _∙_, ap₂}
+use mathlib.Core.Bool.{Bool, true, false, not, _&&_, _||_, cond, false≢true}
+use mathlib.Core.List.{List, [], _∷_}
+use Prim.Native.Nat.{ℕ, zero, suc, _-_, _≤_, _<_}
+use native.Mathlib.Omega.{arith}
+use borrow.Author.Tests.{eqb-true, eq-eqb, leb-true, le-leb, leb-false, not-true}
+use lib.ListN.{length, drop, replicate, length-append, length-replicate, take, length-drop, take-append-drop}
+use lib.Seq.{take-at, drop-at, length-take-le}
+use lib.Dec.{eqb, leb}
+use Rattle.model.specs.Sets.{any, all, keep, add}
+use Rattle.model.specs.Commands.{items, rightDepth}
+use Rattle.model.specs.Answers.{answer}
+use Rattle.model.specs.Journal.{Loan, Journal, loan, sameLoan, loanNames, lives, facts, fresh, apply, step}
+use Rattle.model.specs.Loans.{lender, loanItem, loanRight, borrower, loanDepth, wordNames, wordOf, loanOf, rising, insert, loansImage, used, wordGood, loansInOrder, countOf}
+use Rattle.model.proofs.Sets.{iff, fst, snd, both, or-right, any-cong, all-mono, all-keep, all-add}
+use Rattle.model.proofs.Invariant.{same-loan, loan-self, passed, blocked, lives-create, lives-delete, neither}
+use Rattle.model.proofs.Unit.{rangedLoan}
+use Rattle.model.proofs.Rising.{any-insert, all-insert, rising-insert, insert-present, length-insert, keep-insert}
+use Rattle.model.specs.declared.Command.{Command}
+use Rattle.model.specs.declared.Command.the-variants.{Create, Delete, Allow, Withdraw, Lend, Recall}
+use Rattle.model.specs.declared.Facts.{Facts}
+
+-- ---- a loan and its word
+loan-le : (l : Loan) → rangedLoan l ≡ true → (l .lender ≤ 63) × (l .item ≤ 63) × (l .right ≤ 7) × (l .borrower ≤ 63) × (l .depth ≤ 7)
+loan-le l h = search (fst, snd, leb-true)
+
+-- the fields of a loan's word
+pub word-fields : (l : Loan) → rangedLoan l ≡ true
+    → (lender (wordOf l) ≡ l .lender) × (loanItem (wordOf l) ≡ l .item) × (loanRight (wordOf l) ≡ l .right)
+    × (borrower (wordOf l) ≡ l .borrower) × (loanDepth (wordOf l) ≡ l .depth)
+unfolding wordOf
+word-fields l h = let b = loan-le l h in (omega arith, omega arith, omega arith, omega arith, omega arith)
+
+pub loanOf-wordOf : (l : Loan) → rangedLoan l ≡ true → loanOf (wordOf l) ≡ l
+unfolding loanOf
+loanOf-wordOf l h =
+    let f = word-fields l h in
+    let r : loan (lender (wordOf l)) (loanItem (wordOf l)) (loanRight (wordOf l)) (borrower (wordOf l)) (loanDepth (wordOf l))
+    ≡ loan (l .lender) (l .item) (l .right) (l .borrower) (l .depth)
+    = rw (f .0, f .1, f .2, f .3, f .4) in
+    r
+
+pub word-names : (i : ℕ) (l : Loan) → rangedLoan l ≡ true → wordNames i (wordOf l) ≡ loanNames i l
+word-names i l h = let f = word-fields l h in rw (f .0, f .1, f .3)
+
+pub wordOf-lt : (l : Loan) → rangedLoan l ≡ true → wordOf l < 16777216
+unfolding wordOf
+wordOf-lt l h = omega (arith, loan-le l h)
+
+-- equal words are of equal loans
+pub word-same : (l m : Loan) → rangedLoan l ≡ true → rangedLoan m ≡ true → eqb (wordOf l) (wordOf m) ≡ sameLoan l m
+word-same l m h k =
+    iff (eqb (wordOf l) (wordOf m)) (sameLoan l m)
+    (λ e. let q : l ≡ m = sym (loanOf-wordOf l h) ∙ ap loanOf (eqb-true (wordOf l) (wordOf m) e) ∙ loanOf-wordOf m k in
+    ap (λ x. sameLoan l x) (sym q) ∙ loan-self l)
+    (λ e. eq-eqb (wordOf l) (wordOf m) (ap wordOf (same-loan l m e)))
+
+-- ---- the words of loans
+unfoldable pub sorted : List Loan → List ℕ
+sorted [] = []
+sorted (l ∷ ls) = insert (wordOf l) (sorted ls)
+
+pub rising-sorted : (ls : List Loan) → rising (sorted ls) ≡ true
+unfolding sorted
+rising-sorted [] = unfold rising in refl
+rising-sorted (l ∷ ls) = rising-insert (wordOf l) (sorted ls) (rising-sorted ls)
+
+pub any-sorted : (p : ℕ → Bool) (ls : List Loan) → any p (sorted ls) ≡ any (λ l. p (wordOf l)) ls
+unfolding sorted any
+any-sorted p [] = refl
+any-sorted p (l ∷ ls) = any-insert p (wordOf l) (sorted ls) ∙ ap (λ b. p (wordOf l) || b) (any-sorted p ls)
+
+pub all-sorted : (q : ℕ → Bool) (ls : List Loan) → all (λ l. q (wordOf l)) ls ≡ true → all q (sorted ls) ≡ true
+unfolding sorted all
+all-sorted q [] h = refl
+all-sorted q (l ∷ ls) h =
+    all-insert q (wordOf l) (sorted ls) (fst (q (wordOf l)) (all (λ l. q (wordOf l)) ls) h) (all-sorted q ls (snd (q (wordOf l)) (all (λ l. q (wordOf l)) ls) h))
+
+pub keep-sorted : (f : Loan → Bool) (g : ℕ → Bool) (q : Loan → Bool) (ls : List Loan) → all q ls ≡ true
+    → ((l : Loan) → q l ≡ true → g (wordOf l) ≡ f l) → keep g (sorted ls) ≡ sorted (keep f ls)
+unfolding sorted all keep
+keep-sorted f g q [] h e = refl
+keep-sorted f g q (l ∷ ls) h e =
+    keep-insert g (wordOf l) (sorted ls) (rising-sorted ls)
+    ∙ go (g (wordOf l)) (f l) (e l (fst (q l) (all q ls) h)) (keep-sorted f g q ls (snd (q l) (all q ls) h) e)
+  where
+    go : (b c : Bool) → b ≡ c → keep g (sorted ls) ≡ sorted (keep f ls)
+        → cond b (insert (wordOf l) (keep g (sorted ls))) (keep g (sorted ls)) ≡ sorted (cond c (l ∷ keep f ls) (keep f ls))
+    go true true e k = ap (insert (wordOf l)) k
+    go false false e k = k
+    go true false e k = absurd (false≢true (sym e))
+    go false true e k = absurd (false≢true e)
+
+pub word-in : (l : Loan) (ls : List Loan) → rangedLoan l ≡ true → all rangedLoan ls ≡ true → any (eqb (wordOf l)) (sorted ls) ≡ any (sameLoan l) ls
+word-in l ls h k = any-sorted (eqb (wordOf l)) ls ∙ any-cong (λ m. eqb (wordOf l) (wordOf m)) (sameLoan l) rangedLoan ls k (λ m r. word-same l m h r)
+
+pub sorted-add : (l : Loan) (ls : List Loan) → rangedLoan l ≡ true → all rangedLoan ls ≡ true → sorted (add sameLoan l ls) ≡ insert (wordOf l) (sorted ls)
+unfolding sorted add
+sorted-add l ls h k = go (any (sameLoan l) ls) refl
+  where
+    go : (b : Bool) → any (sameLoan l) ls ≡ b → sorted (cond b ls (l ∷ ls)) ≡ insert (wordOf l) (sorted ls)
+    go true e = sym (insert-present (wordOf l) (sorted ls) (rising-sorted ls) (word-in l ls h k ∙ e))
+    go false e = refl
+
+unfoldable pub distinct : List Loan → Bool
+distinct [] = true
+distinct (l ∷ ls) = not (any (sameLoan l) ls) && distinct ls
+
+pub length-sorted : (ls : List Loan) → all rangedLoan ls ≡ true → distinct ls ≡ true → length (sorted ls) ≡ length ls
+unfolding sorted distinct all
+length-sorted [] h d = refl
+length-sorted (l ∷ ls) h d =
+    let a : rangedLoan l ≡ true = fst (rangedLoan l) (all rangedLoan ls) h in
+    let k : all rangedLoan ls ≡ true = snd (rangedLoan l) (all rangedLoan ls) h in
+    length-insert (wordOf l) (sorted ls) (word-in l ls a k ∙ not-true (any (sameLoan l) ls) (fst (not (any (sameLoan l) ls)) (distinct ls) d))
+    ∙ ap suc (length-sorted ls k (snd (not (any (sameLoan l) ls)) (distinct ls) d))
+
+-- ---- the image of words
+pub used-of : (ws : List ℕ) → used (loansImage ws) ≡ ws
+unfolding used countOf loansImage
+used-of ws = take-at ws (replicate (1024 - length ws) 0) (length ws) refl
+
+pub count-of : (ws : List ℕ) → countOf (loansImage ws) ≡ length ws
+unfolding countOf loansImage
+count-of ws = refl
+
+pub length-loans : (ws : List ℕ) → length ws ≤ 1024 → length (loansImage ws) ≡ 1025
+unfolding loansImage
+length-loans ws h = simp (length-append, length-replicate) (omega arith)
+
+zeros : (n : ℕ) → all (eqb 0) (replicate n 0) ≡ true
+unfolding all
+zeros zero = refl
+zeros (suc n) = zeros n
+
+zeros-are : (s : List ℕ) → all (eqb 0) s ≡ true → s ≡ replicate (length s) 0
+unfolding all
+zeros-are [] h = refl
+zeros-are (x ∷ xs) h =
+    ap₂ (λ (y : ℕ) (ys : List ℕ). y ∷ ys) (sym (eqb-true 0 x (fst (eqb 0 x) (all (eqb 0) xs) h))) (zeros-are xs (snd (eqb 0 x) (all (eqb 0) xs) h))
+
+rest : (ws : List ℕ) → drop (suc (length ws)) (loansImage ws) ≡ replicate (1024 - length ws) 0
+unfolding loansImage
+rest ws = drop-at ws (replicate (1024 - length ws) 0) (length ws) refl
+
+pub order-loans : (f : ℕ → Bool) (ws : List ℕ) → length ws ≤ 1024 → rising ws ≡ true → all (wordGood f) ws ≡ true → loansInOrder f (loansImage ws) ≡ true
+unfolding loansInOrder
+order-loans f ws h r g =
+    rw (count-of ws, used-of ws) (both (both (both (le-leb _ _ h) r) g) (ap (all (eqb 0)) (rest ws) ∙ zeros (1024 - length ws)))
+
+image-of : (t : List ℕ) → length t ≡ 1025 → countOf t ≤ 1024 → all (eqb 0) (drop (suc (countOf t)) t) ≡ true → t ≡ loansImage (used t)
+unfolding countOf used loansImage
+image-of [] l few z = absurd (omega arith)
+image-of (n ∷ s) l few z =
+    let k : length (take n s) ≡ n = length-take-le n s (omega arith) in
+    let q : drop n s ≡ replicate (1024 - n) 0 = zeros-are (drop n s) z ∙ (let e : length (drop n s) ≡ 1024 - n = simp length-drop (omega arith) in rw e) in
+    rw k (ap (λ (l : List ℕ). n ∷ l) (sym (take-append-drop n s) ∙ rw q))
+
+-- a table in order is the image of its loans in use
+pub order-image : (f : ℕ → Bool) (t : List ℕ) → length t ≡ 1025 → loansInOrder f t ≡ true
+    → (countOf t ≤ 1024) × (rising (used t) ≡ true) × (t ≡ loansImage (used t))
+unfolding loansInOrder
+order-image f t l h =
+    let few : countOf t ≤ 1024 = leb-true (countOf t) 1024 (search (fst, snd)) in
+    let r : rising (used t) ≡ true = search (fst, snd) in
+    let z : all (eqb 0) (drop (suc (countOf t)) t) ≡ true = search (fst, snd) in
+    (few, r, image-of t l few z)
+
+-- ---- what every journal keeps of its loans
+abbrev pub soundLoan : (ℕ → Bool) → Loan → Bool
+soundLoan f l = rangedLoan l && not (eqb (l .right) 0) && (f (l .lender) && f (l .item) && f (l .borrower))
+
+pub record LoanInv (j : Journal) : Type 0 where
+  pub loans-sound : all (soundLoan (lives j)) (j .loans) ≡ true
+  pub loans-distinct : distinct (j .loans) ≡ true
+  pub loans-few : length (j .loans) ≤ 1024
+
+pub loans-ranged : (j : Journal) → LoanInv j → all rangedLoan (j .loans) ≡ true
+loans-ranged j v = all-mono (soundLoan (lives j)) rangedLoan (j .loans) (v .loans-sound) (λ l h. search (fst, snd))
+
+pub loans-fresh : LoanInv fresh
+unfolding fresh all distinct
+loans-fresh = record { loans-sound = refl; loans-distinct = refl; loans-few = omega arith }
+
+distinct-add : (l : Loan) (ls : List Loan) → distinct ls ≡ true → distinct (add sameLoan l ls) ≡ true
+unfolding add distinct
+distinct-add l ls d = go (any (sameLoan l) ls) refl
+  where
+    go : (b : Bool) → any (sameLoan l) ls ≡ b → distinct (cond b ls (l ∷ ls)) ≡ true
+    go true e = d
+    go false e = both (ap not e) d
+
+any-less : (p f : Loan → Bool) (ls : List Loan) → any p ls ≡ false → any p (keep f ls) ≡ false
+unfolding any keep
+any-less p f [] h = refl
+any-less p f (l ∷ ls) h = go (f l) (p l) refl h (any-less p f ls)
+  where
+    go : (b c : Bool) → p l ≡ c → c || any p ls ≡ false → (any p ls ≡ false → any p (keep f ls) ≡ false)
+        → any p (cond b (l ∷ keep f ls) (keep f ls)) ≡ false
+    go b true e h k = absurd (false≢true (sym h))
+    go true false e h k = rw e (k h)
+    go false false e h k = k h
+
+distinct-keep : (f : Loan → Bool) (ls : List Loan) → distinct ls ≡ true → distinct (keep f ls) ≡ true
+unfolding keep distinct
+distinct-keep f [] d = refl
+distinct-keep f (l ∷ ls) d = go (f l) (distinct-keep f ls (snd (not (any (sameLoan l) ls)) (distinct ls) d))
+  where
+    go : (b : Bool) → distinct (keep f ls) ≡ true → distinct (cond b (l ∷ keep f ls) (keep f ls)) ≡ true
+    go true k = both (ap not (any-less (sameLoan l) f ls (not-true _ (fst (not (any (sameLoan l) ls)) (distinct ls) d)))) k
+    go false k = k
+
+length-keep : (f : Loan → Bool) (ls : List Loan) → length (keep f ls) ≤ length ls
+unfolding keep
+length-keep f [] = omega arith
+length-keep f (l ∷ ls) = go (f l) (length-keep f ls)
+  where
+    go : (b : Bool) → length (keep f ls) ≤ length ls → length (cond b (l ∷ keep f ls) (keep f ls)) ≤ suc (length ls)
+    go true k = omega arith
+    go false k = omega arith
+
+keep-loans : (j : Journal) (f : Loan → Bool) → LoanInv j
+    → (all (λ l. soundLoan (lives j) l && f l) (keep f (j .loans)) ≡ true) × (distinct (keep f (j .loans)) ≡ true) × (length (keep f (j .loans)) ≤ 1024)
+keep-loans j f v = (all-keep (soundLoan (lives j)) f (j .loans) (v .loans-sound), distinct-keep f (j .loans) (v .loans-distinct), omega (arith, length-keep f (j .loans), v .loans-few))
+
+pub lend-ok : (s : Facts) (by to on right depth : ℕ) → answer s (Lend by to on right depth) ≡ 0
+    → (rangedLoan (loan by on right to depth) ≡ true) × (s .by ≡ true) × (s .on && s .to ≡ true) × (eqb right 0 ≡ false)
+    × (s .full ≡ false)
+lend-ok s by to on right depth e =
+    let p = passed 2 (items by to && items to on && rightDepth right depth) _ e in
+    let q = passed 3 (s .by) _ (p .1) in
+    let r = passed 4 (s .on && s .to) _ (q .1) in
+    let t = blocked 8 (eqb right 0) _ (r .1) in
+    let u = blocked 9 (s .full) _ (t .1) in
+    (p .0, q .0, r .0, t .0, u .0)
+
+-- one more fits where fewer than 1,024 stand
+few-add : (l : Loan) (ls : List Loan) → length ls ≤ 1024 → leb 1024 (length ls) && not (any (sameLoan l) ls) ≡ false → length (add sameLoan l ls) ≤ 1024
+unfolding add
+few-add l ls h e = go (any (sameLoan l) ls) (leb 1024 (length ls)) refl e
+  where
+    go : (b c : Bool) → leb 1024 (length ls) ≡ c → c && not b ≡ false → length (cond b ls (l ∷ ls)) ≤ 1024
+    go true c q e = h
+    go false true q e = absurd (false≢true (sym e))
+    go false false q e = leb-false 1024 (length ls) q
+
+grow-loan : (f f′ : ℕ → Bool) (l : Loan) → ((i : ℕ) → f i ≡ true → f′ i ≡ true) → soundLoan f l ≡ true → soundLoan f′ l ≡ true
+grow-loan f f′ l e h = search (fst, snd, both)
+
+loans-apply : (j : Journal) (c : Command) → LoanInv j → answer (facts j c) c ≡ 0 → LoanInv (apply j c)
+loans-apply j (Create by on) v e = record {
+  loans-sound =
+      all-mono (soundLoan (lives j)) (soundLoan (lives (apply j (Create by on)))) (j .loans) (v .loans-sound)
+      (λ l h. grow-loan (lives j) (lives (apply j (Create by on))) l (λ i k. lives-create j by on i ∙ or-right (eqb i on) (lives j i) k) h);
+  loans-distinct = v .loans-distinct;
+  loans-few = v .loans-few;
+}
+loans-apply j (Delete by on) v e =
+    let k = keep-loans j (λ l. not (loanNames on l)) v in
+    let low : (i : ℕ) → eqb i on ≡ false → lives j i ≡ true → lives (apply j (Delete by on)) i ≡ true
+    = λ i n h. lives-delete j by on i ∙ both h (ap not n) in
+    record {
+      loans-sound = all-mono _ (soundLoan (lives (apply j (Delete by on)))) _ (k .0)
+          (λ l h. let n = neither (eqb (l .lender) on || eqb (l .item) on) (eqb (l .borrower) on) (snd (soundLoan (lives j) l) _ h) in
+          let m = neither (eqb (l .lender) on) (eqb (l .item) on) (ap not (n .0)) in
+          let s : soundLoan (lives j) l ≡ true = fst (soundLoan (lives j) l) (not (loanNames on l)) h in
+          let a : rangedLoan l && not (eqb (l .right) 0) ≡ true = fst _ (lives j (l .lender) && lives j (l .item) && lives j (l .borrower)) s in
+          let b : lives j (l .lender) ≡ true = search (fst, snd) in
+          let c : lives j (l .item) ≡ true = search (fst, snd) in
+          let d : lives j (l .borrower) ≡ true = search (fst, snd) in
+          both a (both (both (low (l .lender) (m .0) b) (low (l .item) (m .1) c)) (low (l .borrower) (n .1) d)));
+      loans-distinct = k .1;
+      loans-few = k .2;
+    }
+loans-apply j (Allow by to on right depth) v e =
+    record { loans-sound = v .loans-sound; loans-distinct = v .loans-distinct; loans-few = v .loans-few }
+loans-apply j (Withdraw by to on right) v e =
+    record { loans-sound = v .loans-sound; loans-distinct = v .loans-distinct; loans-few = v .loans-few }
+loans-apply j (Lend by to on right depth) v e =
+    let k = lend-ok (facts j (Lend by to on right depth)) by to on right depth e in
+    let l = loan by on right to depth in
+    let a : lives j on ≡ true = fst (lives j on) (lives j to) (k .2) in
+    let b : lives j to ≡ true = snd (lives j on) (lives j to) (k .2) in
+    record {
+      loans-sound = all-add (soundLoan (lives j)) sameLoan (loan by on right to depth) (j .loans) (both (both (k .0) (ap not (k .3))) (both (both (k .1) a) b)) (v .loans-sound);
+      loans-distinct = distinct-add (loan by on right to depth) (j .loans) (v .loans-distinct);
+      loans-few = few-add (loan by on right to depth) (j .loans) (v .loans-few) (k .4);
+    }
+loans-apply j (Recall by to on right depth) v e =
+    let k = keep-loans j (λ l. not (sameLoan (loan by on right to depth) l)) v in
+    record {
+      loans-sound = all-mono _ (soundLoan (lives j)) _ (k .0) (λ l h. fst (soundLoan (lives j) l) (not (sameLoan (loan by on right to depth) l)) h);
+      loans-distinct = k .1;
+      loans-few = k .2;
+    }
+
+pub loans-step : (j : Journal) (c : Command) → LoanInv j → LoanInv (step j c)
+loans-step j c v = go (eqb (answer (facts j c) c) 0) refl
+  where
+    go : (b : Bool) → eqb (answer (facts j c) c) 0 ≡ b → LoanInv (cond b (apply j c) j)
+    go true e = loans-apply j c v (eqb-true _ _ e)
+    go false e = v

@@ -1,0 +1,75 @@
+-- Demand 3, as one statement about a whole list of commands.
+use mathlib.Core.Path.{_≡_}
+use mathlib.Core.Bool.{true, cond}
+use mathlib.Core.List.{List, [], _∷_}
+use Prim.Native.Nat.{ℕ}
+use lib.ListN.{length}
+use Rattle.model.specs.declared.Command.{Command}
+use Rattle.model.specs.Answers.{answer, asked, nothing}
+use Rattle.model.specs.Journal.{Loan, Journal, grant, standing, LoanStands, facts, fresh, step, hasGrant}
+use Rattle.model.specs.Unit.{Layout, lists, rows, flat, answerOf, stepOf, checkNumber, checkYes, checkLeft, freshImage}
+use Rattle.model.specs.Chain.{Chain, Meets}
+use Rattle.model.specs.Images.{Images}
+use Rattle.model.specs.ChainUnit.{chainAnswer, chainStep, chainCheckNumber, chainFound, chainBuffer, chainLeft, chainFresh}
+
+-- a chain of the journal's grants and loans
+abbrev pub JournalChain : Journal → ℕ → ℕ → List ℕ → ℕ → ℕ → Type 0
+JournalChain j o r =
+    Chain (λ (l : Loan). l .lender) (λ (l : Loan). l .borrower) (λ (l : Loan). l .depth) (λ p e. standing j (grant p o r e) ≡ true)
+    (LoanStands j o r)
+
+-- what each unit holds
+pub record Units : Type 0 where
+  pub lists : List ℕ
+  pub rows : List ℕ
+  pub chains : Images
+
+-- 'Lists, rows and chain unit start as the making of a fresh unit leaves them'
+unfoldable pub freshUnits : Units
+freshUnits = record { lists = freshImage lists; rows = freshImage rows; chains = chainFresh }
+
+-- ---- 'what demand 3 says of yes, depth and chain holds for each unit's check of every person, item and right'
+-- Lists and rows say yes exactly when the journal has a grant.
+pub record FlatAgrees (L : Layout) (j : Journal) (s : List ℕ) : Type 0 where
+  pub number : (p o r : ℕ) → checkNumber L s p o r ≡ asked p o r
+  pub yes : (p o r : ℕ) → checkYes L s p o r ≡ hasGrant j p o r
+  pub unchanged : (p o r : ℕ) → checkLeft L s p o r ≡ s
+
+-- The chain unit says yes exactly when the journal has a chain, with the greatest depth of any, and writes one that has it; 'with a
+-- chain buffer of its own of the right length'. Beyond the limits there is no chain, and the check is refused.
+pub record ChainAgrees (j : Journal) (s : Images) : Type 0 where
+  pub number : (buffer : List ℕ) → length buffer ≡ 8 → (p o r : ℕ) → chainCheckNumber s buffer p o r ≡ asked p o r
+  pub meets : (buffer : List ℕ) → length buffer ≡ 8 → (p o r : ℕ) → asked p o r ≡ 0
+      → Meets (λ ps a. JournalChain j o r ps p a) (chainFound s buffer p o r) (chainBuffer s buffer p o r)
+  pub beyond : (buffer : List ℕ) → length buffer ≡ 8 → (p o r : ℕ) → (asked p o r ≡ 0 → ⊥)
+      → (chainFound s buffer p o r ≡ nothing) × (chainBuffer s buffer p o r ≡ buffer)
+      × ((ps : List ℕ) (a : ℕ) → JournalChain j o r ps p a → ⊥)
+  pub unchanged : (buffer : List ℕ) (p o r : ℕ) → chainLeft s buffer p o r ≡ s
+
+pub record Agrees (j : Journal) (u : Units) : Type 0 where
+  pub list : FlatAgrees lists j (u .lists)
+  pub row : FlatAgrees rows j (u .rows)
+  pub chain : ChainAgrees j (u .chains)
+
+-- each unit gives the journal's number to a command that it has
+pub record Answers (j : Journal) (u : Units) (c : Command) : Type 0 where
+  pub list : flat c ≡ true → answerOf lists (u .lists) c ≡ answer (facts j c) c
+  pub row : flat c ≡ true → answerOf rows (u .rows) c ≡ answer (facts j c) c
+  pub chain : chainAnswer (u .chains) c ≡ answer (facts j c) c
+
+-- 'The same commands go to them and to the journal, in the same order; a unit that lacks a command isn't called for it. Each call
+-- gets the images that the unit's last call left'
+abbrev pub called : Units → Command → Units
+called u c = record {
+  lists = cond (flat c) (stepOf lists (u .lists) c) (u .lists);
+  rows = cond (flat c) (stepOf rows (u .rows) c) (u .rows);
+  chains = chainStep (u .chains) c;
+}
+
+-- 'Before the first call and after each'
+abbrev pub Follows : Journal → Units → List Command → Type 0
+Follows j u [] = Agrees j u
+Follows j u (c ∷ cs) = Agrees j u × Answers j u c × Follows (step j c) (called u c) cs
+
+abbrev pub Agreement : List Command → Type 0
+Agreement cs = Follows fresh freshUnits cs

@@ -1,0 +1,151 @@
+-- Document 01's handover examples E1 to E12, as one table over the journal.
+use mathlib.Core.Bool.{Bool, false, _&&_, cond}
+use mathlib.Core.List.{List, [], _∷_, _++_, map}
+use Prim.Native.Nat.{ℕ, zero, suc, _-_, min, max}
+use lib.ListN.{take, replicate}
+use lib.Dec.{eqb, leb}
+use Rattle.model.specs.declared.Command.{Command}
+use Rattle.model.specs.declared.Command.the-variants.{Create, Delete, Allow, Withdraw, Lend, Recall}
+use Rattle.model.specs.declared.Found.{Found}
+use Rattle.model.specs.Sets.{keep}
+use Rattle.model.specs.Answers.{answer}
+use Rattle.model.specs.Journal.{Grant, Loan, Journal, facts, fresh, run}
+use Rattle.model.specs.Unit.{Layout, flat, answerOf, lists, rows}
+use Rattle.model.specs.ChainUnit.{chainAnswer, chainFound, chainBuffer}
+use Rattle.model.specs.Agreement.{Units, called, freshUnits}
+
+-- ---- every chain of a journal, listed: its persons, p0 first, the last of them, and its last allowance
+pub record Route : Type 0 where
+  pub persons : List ℕ
+  pub last : ℕ
+  pub allowance : ℕ
+
+abbrev pub route : List ℕ → ℕ → ℕ → Route
+route ps p a = record { persons = ps; last = p; allowance = a }
+
+abbrev pub start : Grant → Route
+start g = route (g .person ∷ []) (g .person) (g .depth)
+
+-- a loan that follows a route, and the route with it
+abbrev pub extends : Loan → Route → Bool
+extends l t = eqb (t .last) (l .lender) && leb 1 (t .allowance)
+
+abbrev pub onward : Loan → Route → Route
+onward l t = route (t .persons ++ (l .borrower ∷ [])) (l .borrower) (min (t .allowance - 1) (l .depth))
+
+unfoldable pub extended : List Loan → List Route → List Route
+extended [] ts = []
+extended (l ∷ ls) ts = map (onward l) (keep (extends l) ts) ++ extended ls ts
+
+module _ (j : Journal) (o r : ℕ) where
+  -- those with k loans on item o and right r, and with at most n
+  unfoldable pub routes : ℕ → List Route
+  routes zero = map start (keep (λ (g : Grant). eqb (g .item) o && eqb (g .right) r) (j .grants))
+  routes (suc k) = extended (keep (λ (l : Loan). eqb (l .item) o && eqb (l .right) r) (j .loans)) (routes k)
+
+  unfoldable pub routesTo : ℕ → List Route
+  routesTo zero = routes zero
+  routesTo (suc n) = routesTo n ++ routes (suc n)
+
+-- ---- questions and answers
+pub data Question : Type 0 where
+  asks : Command → Question
+  checks : ℕ → Question
+
+-- a command's number; or a check's no, or its yes with the greatest allowance and the persons of every chain that has it
+pub data Said : Type 0 where
+  number : ℕ → Said
+  no : Said
+  yes : ℕ → List (List ℕ) → Said
+
+unfoldable pub highest : List Route → ℕ
+highest [] = 0
+highest (t ∷ ts) = max (t .allowance) (highest ts)
+
+unfoldable pub best : List Route → Said
+best [] = no
+best (t ∷ ts) =
+    yes (highest (t ∷ ts)) (map (λ (u : Route). u .persons) (keep (λ u. eqb (u .allowance) (highest (t ∷ ts))) (t ∷ ts)))
+
+-- 'on 9 and right 1'
+abbrev pub said : Journal → Question → Said
+said j (asks c) = number (answer (facts j c) c)
+said j (checks p) = best (keep (λ t. eqb (t .last) p) (routesTo j 9 1 7))
+
+pub record Example : Type 0 where
+  pub first : List Command
+  pub question : Question
+  pub expected : Said
+
+abbrev row : List Command → Question → Said → Example
+row cs q s = record { first = cs; question = q; expected = s }
+
+-- 'Base: 0 creates 3, 4, 5, 9; allows 3 on 9, right 1, depth 2; 3 lends to 4 depth 1; 4 lends to 5 depth 0'
+unfoldable pub base : List Command
+base = Create 0 3 ∷ Create 0 4 ∷ Create 0 5 ∷ Create 0 9 ∷ Allow 0 3 9 1 2 ∷ Lend 3 4 9 1 1 ∷ Lend 4 5 9 1 0 ∷ []
+
+unfoldable pub examples : List Example
+examples =
+    -- E1 to E3
+    row [] (checks 5) (yes 0 ((3 ∷ 4 ∷ 5 ∷ []) ∷ []))
+    ∷ row [] (checks 4) (yes 1 ((3 ∷ 4 ∷ []) ∷ []))
+    ∷ row [] (checks 0) no
+    -- E4
+    ∷ row [] (asks (Recall 3 4 9 1 0)) (number 0)
+    ∷ row (Recall 3 4 9 1 0 ∷ []) (checks 4) (yes 1 ((3 ∷ 4 ∷ []) ∷ []))
+    -- E5
+    ∷ row [] (asks (Withdraw 0 3 9 1)) (number 0)
+    ∷ row (Withdraw 0 3 9 1 ∷ []) (checks 5) no
+    ∷ row (Withdraw 0 3 9 1 ∷ Allow 0 3 9 1 1 ∷ []) (checks 4) (yes 0 ((3 ∷ 4 ∷ []) ∷ []))
+    ∷ row (Withdraw 0 3 9 1 ∷ Allow 0 3 9 1 1 ∷ []) (checks 5) no
+    -- E6
+    ∷ row (Lend 3 5 9 1 5 ∷ []) (checks 5) (yes 1 ((3 ∷ 5 ∷ []) ∷ []))
+    -- E7
+    ∷ row (Delete 0 4 ∷ Create 0 4 ∷ []) (checks 4) no
+    -- E8 and E9
+    ∷ row [] (asks (Create 0 63)) (number 0)
+    ∷ row [] (asks (Create 0 64)) (number 3)
+    ∷ row [] (asks (Create 0 3)) (number 6)
+    -- E10 to E12
+    ∷ row [] (asks (Delete 3 0)) (number 7)
+    ∷ row [] (asks (Allow 3 4 9 1 0)) (number 8)
+    ∷ row [] (asks (Create 7 3)) (number 4)
+    ∷ []
+
+-- what the journal says in an example
+abbrev pub outcome : Example → Said
+outcome e = said (run fresh (base ++ e .first)) (e .question)
+
+-- ---- the same of the units
+unfoldable pub calls : Units → List Command → Units
+calls u [] = u
+calls u (c ∷ cs) = calls (called u c) cs
+
+abbrev pub saidOf : Found → List ℕ → Said
+saidOf f buffer = cond (f .yes) (yes (f .depth) (take (f .persons) buffer ∷ [])) no
+
+-- the chain unit, with a chain buffer of zeros
+abbrev pub chainSaid : Units → Question → Said
+chainSaid u (asks c) = number (chainAnswer (u .chains) c)
+chainSaid u (checks p) = saidOf (chainFound (u .chains) (replicate 8 0) p 9 1) (chainBuffer (u .chains) (replicate 8 0) p 9 1)
+
+abbrev pub chainOutcome : Example → Said
+chainOutcome e = chainSaid (calls freshUnits (base ++ e .first)) (e .question)
+
+-- lists and rows, in the examples that ask a command of theirs
+abbrev pub asksFlat : Question → Bool
+asksFlat (asks c) = flat c
+asksFlat (checks p) = false
+
+abbrev pub flatExamples : List Example
+flatExamples = keep (λ (e : Example). asksFlat (e .question)) examples
+
+abbrev pub flatSaid : Layout → List ℕ → Question → Said
+flatSaid L s (asks c) = number (answerOf L s c)
+flatSaid L s (checks p) = no
+
+abbrev pub listOutcome : Example → Said
+listOutcome e = flatSaid lists (calls freshUnits (base ++ e .first) .lists) (e .question)
+
+abbrev pub rowOutcome : Example → Said
+rowOutcome e = flatSaid rows (calls freshUnits (base ++ e .first) .rows) (e .question)

@@ -1,0 +1,127 @@
+-- The journal: document 01's plain machine, to which every unit is held.
+-- Its state is the live items ('a roll of living items'), the grants and the loans, as lists without duplicates.
+use mathlib.Core.Path.{_≡_}
+use mathlib.Core.Bool.{Bool, true, not, _&&_, _||_, cond}
+use mathlib.Core.List.{List, [], _∷_}
+use Prim.Native.Nat.{ℕ}
+use lib.ListN.{length}
+use lib.Dec.{eqb, leb}
+use Rattle.model.specs.declared.Command.{Command}
+use Rattle.model.specs.declared.Command.the-variants.{Create, Delete, Allow, Withdraw, Lend, Recall}
+use Rattle.model.specs.declared.Facts.{Facts}
+use Rattle.model.specs.Sets.{any, keep, add}
+use Rattle.model.specs.Commands.{byOf, toOf, onOf, rightOf, depthOf}
+use Rattle.model.specs.Answers.{answer}
+
+-- 'a set of grants (person, item, right, depth)'
+pub record Grant : Type 0 where
+  pub person : ℕ
+  pub item : ℕ
+  pub right : ℕ
+  pub depth : ℕ
+
+-- 'a set of loans (lender, item, right, borrower, depth)': a loan is a delegation of document 002
+pub record Loan : Type 0 where
+  pub lender : ℕ
+  pub item : ℕ
+  pub right : ℕ
+  pub borrower : ℕ
+  pub depth : ℕ
+
+pub record Journal : Type 0 where
+  pub live : List ℕ
+  pub grants : List Grant
+  pub loans : List Loan
+
+abbrev pub grant : ℕ → ℕ → ℕ → ℕ → Grant
+grant p o r d = record { person = p; item = o; right = r; depth = d }
+
+abbrev pub loan : ℕ → ℕ → ℕ → ℕ → ℕ → Loan
+loan p o r q d = record { lender = p; item = o; right = r; borrower = q; depth = d }
+
+-- ---- tests
+abbrev pub sameGrant : Grant → Grant → Bool
+sameGrant g h = eqb (g .person) (h .person) && eqb (g .item) (h .item) && eqb (g .right) (h .right) && eqb (g .depth) (h .depth)
+
+abbrev pub sameLoan : Loan → Loan → Bool
+sameLoan l m =
+    eqb (l .lender) (m .lender) && eqb (l .item) (m .item) && eqb (l .right) (m .right) && eqb (l .borrower) (m .borrower)
+    && eqb (l .depth) (m .depth)
+
+-- a grant to p on o, right r, at any depth
+abbrev pub isTo : ℕ → ℕ → ℕ → Grant → Bool
+isTo p o r g = eqb (g .person) p && eqb (g .item) o && eqb (g .right) r
+
+-- a grant names i as person or item
+abbrev pub names : ℕ → Grant → Bool
+names i g = eqb (g .person) i || eqb (g .item) i
+
+-- a loan names i as lender, item or borrower
+abbrev pub loanNames : ℕ → Loan → Bool
+loanNames i l = eqb (l .lender) i || eqb (l .item) i || eqb (l .borrower) i
+
+-- ---- the state
+abbrev pub lives : Journal → ℕ → Bool
+lives j i = any (eqb i) (j .live)
+
+-- p has a grant on o, right r, at any depth; of right 0 it is 'an edit grant'
+abbrev pub hasGrant : Journal → ℕ → ℕ → ℕ → Bool
+hasGrant j p o r = any (isTo p o r) (j .grants)
+
+abbrev pub standing : Journal → Grant → Bool
+standing j g = any (sameGrant g) (j .grants)
+
+-- loan l stands, on item o and right r
+abbrev pub LoanStands : Journal → ℕ → ℕ → Loan → Type 0
+LoanStands j o r l = (any (sameLoan l) (j .loans) ≡ true) × (l .item ≡ o) × (l .right ≡ r)
+
+-- the loan that lend and recall name
+abbrev pub loanIn : Command → Loan
+loanIn c = loan (byOf c) (onOf c) (rightOf c) (toOf c) (depthOf c)
+
+-- what the table of answers asks of the journal; full: '1,024 loans stand and this is not one of them'
+abbrev pub facts : Journal → Command → Facts
+facts j c = record {
+  by = lives j (byOf c);
+  on = lives j (onOf c);
+  to = lives j (toOf c);
+  edits = hasGrant j (byOf c) (onOf c) 0;
+  full = leb 1024 (length (j .loans)) && not (any (sameLoan (loanIn c)) (j .loans));
+}
+
+-- 'Fresh: item 0 lives, and one grant stands, to 0 on 0, right 0, depth 0'
+unfoldable pub fresh : Journal
+fresh = record { live = 0 ∷ []; grants = grant 0 0 0 0 ∷ []; loans = [] }
+
+-- what an accepted command does
+abbrev pub apply : Journal → Command → Journal
+-- 'on lives; grant (by, on, 0, 0)'
+apply j (Create by on) =
+    record { live = add eqb on (j .live); grants = add sameGrant (grant by on 0 0) (j .grants); loans = j .loans }
+-- 'on leaves the roll, and each grant or loan that names it .. ends'
+apply j (Delete by on) =
+    record {
+      live = keep (λ i. not (eqb i on)) (j .live);
+      grants = keep (λ g. not (names on g)) (j .grants);
+      loans = keep (λ l. not (loanNames on l)) (j .loans);
+    }
+-- 'that grant stands. An equal one already standing changes nothing'
+apply j (Allow by to on right depth) =
+    record { live = j .live; grants = add sameGrant (grant to on right depth) (j .grants); loans = j .loans }
+-- 'every depth granted to that person there ends .. Loans stay'
+apply j (Withdraw by to on right) =
+    record { live = j .live; grants = keep (λ g. not (isTo to on right g)) (j .grants); loans = j .loans }
+-- 'that loan stands, also where the lender holds nothing yet'
+apply j (Lend by to on right depth) =
+    record { live = j .live; grants = j .grants; loans = add sameLoan (loan by on right to depth) (j .loans) }
+-- 'just that loan of by ends, if it stands'
+apply j (Recall by to on right depth) =
+    record { live = j .live; grants = j .grants; loans = keep (λ l. not (sameLoan (loan by on right to depth) l)) (j .loans) }
+
+-- 'a refused command changes nothing in it'
+abbrev pub step : Journal → Command → Journal
+step j c = cond (eqb (answer (facts j c) c) 0) (apply j c) j
+
+abbrev pub run : Journal → List Command → Journal
+run j [] = j
+run j (c ∷ cs) = run (step j c) cs
