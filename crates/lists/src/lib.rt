@@ -1,0 +1,357 @@
+// The lists unit: access control lists. An image has 513 words: word 0 is the live set, bit i for item i; word 1 + 8 * on + right
+// is the list of item on and that right, bit s for each person s granted it.
+use model::Answer;
+use model::Checked;
+use model::Command;
+use model::Facts;
+use model::Item;
+use model::Offered;
+use model::Question;
+use model::Right;
+use model::SubjectSet;
+use model::Typed;
+use model::Within;
+use model::judge;
+use model::word;
+ghost use mathlib.Core.Path.{_≡_};
+ghost use Prim.Native.Nat.{ℕ, _+_, _*_, _%_, _<_, _≤_};
+ghost use lib.ListN.{length, getD};
+ghost use Rattle.model.specs.declared.Command.the-variants.{Create, Delete, Allow, Withdraw};
+ghost use Rattle.model.specs.Sets.{allBelow};
+ghost use Rattle.model.specs.Bits.{withoutBit};
+ghost use Rattle.model.specs.Commands.{Ranged, rawOf};
+ghost use Rattle.model.specs.Answers.{numberOf, checkedNumber, checkedYes};
+ghost use Rattle.model.specs.Unit.{lists, liveIn, held, inOrder, guarded, factsOf, after, Judged, Ran, Checks, Offers, freshImage, freshNumber, freshOf};
+ghost use Rattle.model.specs.Subjects.{subjectsNumber, subjectsAnswer};
+ghost use Rattle.model.proofs.Scan.{orBelow};
+ghost use Rattle.model.proofs.Order.{blockOk};
+ghost use Rattle.model.proofs.Sweep.{Swept};
+
+// The two words of a fresh unit that are not 0: the live set, and the list of the root item's right to edit.
+pub struct Lists {
+    pub live: u64,
+    pub edit: u64,
+}
+
+impl Lists {
+    // The words of an image.
+    pub const WORDS: usize = 513;
+
+    pub fn fresh() -> Lists
+        ensures { λ r. ⌜ (r .live ≡ getD (freshImage lists) 0 0) × (r .edit ≡ getD (freshImage lists) 1 0) ⌝ }
+    {
+        Lists { live: 1, edit: 1 }
+    }
+}
+
+// Every word to 0.
+fn clear(words: &mut [u64])
+    ensures { λ _. ⌜ Swept (λ k w. 0) (now (words .entry)) (length (now (words .entry))) (now (words .exit)) ⌝ }
+{
+    let mut k: usize = 0;
+    while k < words.len() {
+        words[k] = 0;
+        k += 1;
+    }
+}
+
+// Number 1 alone: whatever the buffer held is overwritten.
+pub fn fresh(image: &mut [u64]) -> Answer
+    ensures { λ r. ⌜ (numberOf r ≡ freshNumber lists (now (image .entry))) × (now (image .exit) ≡ freshOf lists (now (image .entry))) ⌝ }
+{
+    if image.len() != Lists::WORDS {
+        return Answer::WrongLength;
+    }
+    let start = Lists::fresh();
+    clear(image);
+    image[0] = start.live;
+    image[1] = start.edit;
+    Answer::Done
+}
+
+// Every bit that one of the words has.
+fn union(words: &[u64]) -> u64
+    ensures { λ r. ⌜ r ≡ orBelow (length (now (words .entry))) (λ k. getD (now (words .entry)) k 0) ⌝ }
+{
+    let mut all: u64 = 0;
+    let mut k: usize = 0;
+    while k < words.len() {
+        all = all | words[k];
+        k += 1;
+    }
+    all
+}
+
+// Whether the lists of item on name living items only. One test serves its eight lists.
+fn item_ok(image: &[u64], on: u32) -> bool
+    requires { ⌜ (length (now image) ≡ 513) × (on < 64) ⌝ }
+    ensures { λ r. ⌜ r ≡ blockOk lists (now (image .entry)) 512 on ⌝ }
+{
+    let live = image[0];
+    let at = 1 + 8 * on as usize;
+    let end = at + 8;
+    let all = union(&image[at..end]);
+    if word::has(live, on) {
+        return word::is_within(all, live);
+    }
+    all == 0
+}
+
+// Every item, with one early exit each.
+fn items_ok(image: &[u64]) -> bool
+    requires { ⌜ length (now image) ≡ 513 ⌝ }
+    ensures { λ r. ⌜ r ≡ allBelow 64 (blockOk lists (now (image .entry)) 512) ⌝ }
+{
+    let mut on: u32 = 0;
+    while on < 64 {
+        if !item_ok(image, on) {
+            return false;
+        }
+        on += 1;
+    }
+    true
+}
+
+// In order: the root item lives, and no list names a dead item.
+fn in_order(image: &[u64]) -> bool
+    requires { ⌜ length (now image) ≡ 513 ⌝ }
+    ensures { λ r. ⌜ r ≡ inOrder lists (now (image .entry)) ⌝ }
+{
+    if !word::has(image[0], 0) {
+        return false;
+    }
+    items_ok(image)
+}
+
+// Numbers 1 and 2.
+fn order(image: &[u64]) -> Answer
+    ensures { λ r. ⌜ numberOf r ≡ guarded lists (now (image .entry)) 0 ⌝ }
+{
+    if image.len() != Lists::WORDS {
+        return Answer::WrongLength;
+    }
+    if !in_order(image) {
+        return Answer::NotInOrder;
+    }
+    Answer::Done
+}
+
+// Whether the item lives.
+fn lives(image: &[u64], i: Item) -> bool
+    requires { ⌜ (length (now image) ≡ 513) × (i .0 < 64) ⌝ }
+    ensures { λ r. ⌜ r ≡ liveIn lists (now (image .entry)) (i .0) ⌝ }
+{
+    word::has(image[0], i.number())
+}
+
+// Where the list of an item and a right stands.
+fn place(on: Item, right: Right) -> usize
+    requires { ⌜ (on .0 < 64) × (right .0 < 8) ⌝ }
+    ensures { λ r. ⌜ (r ≡ 1 + (8 * on .0 + right .0)) × (r < 513) ⌝ }
+{
+    1 + (8 * on.number() + right.number()) as usize
+}
+
+// Whether the person is on the list of that item and right.
+fn holds(image: &[u64], who: Item, on: Item, right: Right) -> bool
+    requires { ⌜ (length (now image) ≡ 513) × (who .0 < 64) × (on .0 < 64) × (right .0 < 8) ⌝ }
+    ensures { λ r. ⌜ r ≡ held lists (now (image .entry)) (who .0) (on .0) (right .0) ⌝ }
+{
+    let at = place(on, right);
+    word::has(image[at], who.number())
+}
+
+// What the table asks of this image.
+fn facts(image: &[u64], t: Typed) -> Facts
+    requires { ⌜ (length (now image) ≡ 513) × Ranged (rawOf t) ⌝ }
+    ensures { λ r. ⌜ r ≡ factsOf lists (now (image .entry)) (rawOf t) ⌝ }
+{
+    let by = t.by();
+    let on = t.on();
+    let to = t.to();
+    let edit = Right::edit();
+    Facts {
+        by: lives(image, by),
+        on: lives(image, on),
+        to: lives(image, to),
+        edits: holds(image, by, on, edit),
+        full: false,
+    }
+}
+
+// The person onto the list. A grant has no depth here: it was checked, and is dropped.
+fn put_grant(image: &mut [u64], to: Item, on: Item, right: Right)
+    requires { ⌜ (length (now image) ≡ 513) × (to .0 < 64) × (on .0 < 64) × (right .0 < 8) ⌝ }
+    ensures { λ _. ⌜ now (image .exit) ≡ after lists (now (image .entry)) (Allow 0 (to .0) (on .0) (right .0) 0) ⌝ }
+{
+    let at = place(on, right);
+    image[at] = word::with(image[at], to.number());
+}
+
+// The person off the list.
+fn drop_grant(image: &mut [u64], to: Item, on: Item, right: Right)
+    requires { ⌜ (length (now image) ≡ 513) × (to .0 < 64) × (on .0 < 64) × (right .0 < 8) ⌝ }
+    ensures { λ _. ⌜ now (image .exit) ≡ after lists (now (image .entry)) (Withdraw 0 (to .0) (on .0) (right .0)) ⌝ }
+{
+    let at = place(on, right);
+    image[at] = word::without(image[at], to.number());
+}
+
+// The item's bit of the live set, then an edit grant on it to its creator.
+fn put_item(image: &mut [u64], by: Item, on: Item)
+    requires { ⌜ (length (now image) ≡ 513) × (by .0 < 64) × (on .0 < 64) ⌝ }
+    ensures { λ _. ⌜ now (image .exit) ≡ after lists (now (image .entry)) (Create (by .0) (on .0)) ⌝ }
+{
+    image[0] = word::with(image[0], on.number());
+    put_grant(image, by, on, Right::edit());
+}
+
+// Item i's bit out of every word: the live set's, and its name on each list.
+fn drop_name(image: &mut [u64], i: Item)
+    ensures { λ _. ⌜ Swept (λ k w. withoutBit w (i .0 % 64)) (now (image .entry)) (length (now (image .entry))) (now (image .exit)) ⌝ }
+{
+    let mut at: usize = 0;
+    while at < image.len() {
+        image[at] = word::without(image[at], i.number());
+        at += 1;
+    }
+}
+
+// The item's bit everywhere, so that a later item of this number inherits nothing, then its own lists.
+fn drop_item(image: &mut [u64], on: Item)
+    requires { ⌜ (length (now image) ≡ 513) × (on .0 < 64) ⌝ }
+    ensures { λ _. ⌜ now (image .exit) ≡ after lists (now (image .entry)) (Delete 0 (on .0)) ⌝ }
+{
+    drop_name(image, on);
+    let at = place(on, Right::edit());
+    let end = at + 8;
+    clear(&mut image[at..end]);
+}
+
+// What an accepted command does. Lists have no loans.
+fn apply(image: &mut [u64], t: Typed)
+    requires { ⌜ (length (now image) ≡ 513) × Ranged (rawOf t) ⌝ }
+    ensures { λ _. ⌜ now (image .exit) ≡ after lists (now (image .entry)) (rawOf t) ⌝ }
+{
+    match t {
+        Typed::Create { by, on } => put_item(image, by, on),
+        Typed::Delete { on, .. } => drop_item(image, on),
+        Typed::Allow { to, on, right, .. } => put_grant(image, to, on, right),
+        Typed::Withdraw { to, on, right, .. } => drop_grant(image, to, on, right),
+        Typed::Lend { .. } => {}
+        Typed::Recall { .. } => {}
+    }
+}
+
+// Numbers 4 to 10, and what follows.
+fn settle(image: &mut [u64], t: Typed) -> Answer
+    requires { ⌜ (length (now image) ≡ 513) × Ranged (rawOf t) ⌝ }
+    ensures { λ r. ⌜ Judged lists (now (image .entry)) (rawOf t) (numberOf r) (now (image .exit)) ⌝ }
+{
+    let f = facts(image, t);
+    let a = judge(t, f);
+    if a.number() != 0 {
+        return a;
+    }
+    apply(image, t);
+    a
+}
+
+// Any command, from the numbers that arrived. Private: a unit that lacks a command must not answer it.
+fn run(image: &mut [u64], c: Command) -> Answer
+    ensures { λ r. ⌜ Ran lists (now (image .entry)) c (numberOf r) (now (image .exit)) ⌝ }
+{
+    let a = order(image);
+    if a.number() != 0 {
+        return a;
+    }
+    let w = c.within();
+    match w {
+        Within::Beyond => Answer::OutOfRange,
+        Within::Typed(t) => settle(image, t),
+    }
+}
+
+pub fn create(image: &mut [u64], by: u32, on: u32) -> Answer
+    ensures { λ r. ⌜ Ran lists (now (image .entry)) (Create by on) (numberOf r) (now (image .exit)) ⌝ }
+{
+    run(image, Command::Create { by, on })
+}
+
+pub fn delete(image: &mut [u64], by: u32, on: u32) -> Answer
+    ensures { λ r. ⌜ Ran lists (now (image .entry)) (Delete by on) (numberOf r) (now (image .exit)) ⌝ }
+{
+    run(image, Command::Delete { by, on })
+}
+
+pub fn allow(image: &mut [u64], by: u32, to: u32, on: u32, right: u32, depth: u32) -> Answer
+    ensures { λ r. ⌜ Ran lists (now (image .entry)) (Allow by to on right depth) (numberOf r) (now (image .exit)) ⌝ }
+{
+    run(
+        image,
+        Command::Allow {
+            by,
+            to,
+            on,
+            right,
+            depth,
+        },
+    )
+}
+
+pub fn withdraw(image: &mut [u64], by: u32, to: u32, on: u32, right: u32) -> Answer
+    ensures { λ r. ⌜ Ran lists (now (image .entry)) (Withdraw by to on right) (numberOf r) (now (image .exit)) ⌝ }
+{
+    run(image, Command::Withdraw { by, to, on, right })
+}
+
+// For a caller that reads commands: any of them, passed over where lists lack it.
+pub fn offer(image: &mut [u64], c: Command) -> Offered
+    ensures { λ r. ⌜ Offers lists (now (image .entry)) c r (now (image .exit)) ⌝ }
+{
+    if !c.is_flat() {
+        return Offered::Passed;
+    }
+    Offered::Answered(run(image, c))
+}
+
+// Whether the person has that right on the item.
+pub fn check(image: &[u64], who: u32, on: u32, right: u32) -> Checked
+    ensures { λ r. ⌜ Checks lists (now (image .entry)) who on right (checkedNumber r) (checkedYes r) (now (image .exit)) ⌝ }
+{
+    let a = order(image);
+    if a.number() != 0 {
+        return Checked::Refused(a);
+    }
+    let q = Question::read(who, on, right);
+    match q {
+        Question::Beyond => Checked::Refused(Answer::OutOfRange),
+        Question::Asked {
+            who: p,
+            on: i,
+            right: r,
+        } => Checked::said(holds(image, p, i, r)),
+    }
+}
+
+// Every person with at least one grant (document 01's 'holder roll').
+pub fn subjects(image: &[u64]) -> SubjectSet
+    ensures { λ r. ⌜ (numberOf (r .answer) ≡ subjectsNumber lists (now (image .entry))) × (r .persons ≡ subjectsAnswer lists (now (image .entry))) × (now (image .exit) ≡ now (image .entry)) ⌝ }
+{
+    let a = order(image);
+    if a.number() != 0 {
+        return SubjectSet {
+            answer: a,
+            persons: 0,
+        };
+    }
+    let persons = union(&image[1..Lists::WORDS]);
+    SubjectSet { answer: a, persons }
+}
+
+// Numbers 1 and 2 alone, for a caller that reads the lists itself.
+pub fn inspect(image: &[u64]) -> Answer
+    ensures { λ r. ⌜ (numberOf r ≡ guarded lists (now (image .entry)) 0) × (now (image .exit) ≡ now (image .entry)) ⌝ }
+{
+    order(image)
+}
