@@ -1,0 +1,15 @@
+use mathlib.Core.Path.{refl, sym}
+use Prim.Native.Nat.{_-_}
+use native.Mathlib.Omega.{arith}
+use Rattle.model.specs.Unit.{rows}
+use Rattle.model.proofs.Unit.{rows-laws}
+use Rattle.model.proofs.Edits.{fresh-cells}
+use Rattle.rows.proofs.Rows.fresh.Statement.{statement}
+use Rattle.rows.proofs.Rows.fresh.Tie as tie
+
+returns : tie.Need-returns
+unfolding rows
+returns c = let f = fresh-cells rows rows-laws 8 (λ z. omega arith) refl in (sym (f .0), sym (f .1))
+
+pub fresh-spec : {M : Type 1} → statement M
+fresh-spec = tie.close (tie.spec returns)

@@ -1,0 +1,31 @@
+use mathlib.Core.Path.{refl, sym, _∙_}
+use Prim.Native.Nat.{_-_}
+use borrow.Author.Needs.{needs}
+use Rattle.model.specs.Unit.{rows}
+use Rattle.model.proofs.Ends.{readable, subjects-stop, subjects-are}
+use Rattle.rows.proofs.subjects.Statement.{statement}
+use Rattle.rows.proofs.subjects.Tie as tie
+
+order-requires : tie.Need-order-requires
+order-requires c κs = search needs
+
+number-requires : tie.Need-number-requires
+number-requires c κs = search needs
+
+returns : tie.Need-returns
+returns c =
+    let s = subjects-stop rows (c .before .before .before .before .args .image .now) _ (c .before .before .order .ensures) (λ z. c .if1 .taken (c .before .number .ensures ∙ z)) in
+    (s .0, s .1, refl)
+
+subjects-requires : tie.Need-subjects-requires
+unfolding rows
+subjects-requires c κs = readable rows (c .before .before .before .before .args .image .now) (sym (c .before .before .order .ensures) ∙ sym (c .before .number .ensures) ∙ c .if1 .left)
+
+returns-2 : tie.Need-returns-2
+returns-2 c =
+    let s = subjects-are rows (c .before .before .before .before .before .args .image .now) _ _ (c .before .before .before .order .ensures) (sym (c .before .before .number .ensures) ∙ c .before .if1 .left) (c .subjects .ensures) in
+    (s .0, s .1, refl)
+
+pub subjects-spec : {M : Type 1} → statement M
+subjects-spec =
+    tie.close (tie.spec order-requires number-requires returns subjects-requires returns-2)
