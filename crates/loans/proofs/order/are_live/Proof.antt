@@ -1,0 +1,66 @@
+use borrow.Author.Needs.{needs}
+use native.Mathlib.Omega.{arith}
+use mathlib.Core.Path.{_≡_, refl, ap, _∙_}
+use Prim.Native.Nat.{_-_, _≤_}
+use lib.ListN.{length, drop, drop-of-length-le}
+use mathlib.Core.Bool.{_&&_}
+use lib.Dec.{eqb}
+use Rattle.model.specs.Sets.{all}
+use Rattle.model.proofs.Indexed.{all-next}
+use Rattle.model.proofs.Scan.{scan-next, scan-end}
+use Rattle.loans.specs.Table.{unmasked, namesLive}
+use Rattle.loans.proofs.order.are_live.Statement.{statement}
+use Rattle.loans.proofs.order.are_live.Tie as tie
+
+abbrev Inv-loop : tie.InvT-loop
+Inv-loop s masks bad₀ i₀ bad i = (i ≤ length s) × (all (namesLive (unmasked masks)) s ≡ eqb bad 0 && all (namesLive (unmasked masks)) (drop i s))
+
+abbrev μ-loop : tie.MeasureT-loop
+μ-loop s masks bad₀ i₀ bad i = length s - i
+
+loop-holds : tie.Need-loop-holds Inv-loop μ-loop
+loop-holds c = (search needs, refl)
+
+mul-names-flag : tie.Need-mul-names-flag Inv-loop μ-loop
+mul-names-flag c = search needs
+
+shared-slice-read-names-flag : tie.Need-shared-slice-read-names-flag Inv-loop μ-loop
+shared-slice-read-names-flag c = search needs
+
+names-flag-requires : tie.Need-names-flag-requires Inv-loop μ-loop
+names-flag-requires c κs = search needs
+
+add-i : tie.Need-add-i Inv-loop μ-loop
+add-i c = search needs
+
+loop-less : tie.Need-loop-less Inv-loop μ-loop
+loop-less c = search needs
+
+loop-again : tie.Need-loop-again Inv-loop μ-loop
+loop-again c =
+    let l = c .before .before .before .loop in
+    let a = c .before .before .before .before .before .args in
+    let n = all-next (namesLive (unmasked (a .masks .now))) (a .s .now) (l .i) 0 (omega arith) in
+    (search needs, scan-next (l .bad) (c .names-flag .result) _ _ _ (l .inv .1 ∙ ap (λ b. eqb (l .bad) 0 && b) n) (c .names-flag .ensures))
+
+returns : tie.Need-returns Inv-loop μ-loop
+unfolding all
+returns c =
+    let l = c .before .loop in
+    let s = c .before .before .before .args .s .now in
+    scan-end (eqb (l .bad) 0) _ _ (l .inv .1) (rw (drop-of-length-le s {i = l .i} (omega arith)))
+
+pub are-live-spec : {M : Type 1} → statement M
+are-live-spec =
+    tie.close
+    (tie.spec
+    Inv-loop
+    μ-loop
+    loop-holds
+    mul-names-flag
+    shared-slice-read-names-flag
+    names-flag-requires
+    add-i
+    loop-less
+    loop-again
+    returns)

@@ -1,0 +1,113 @@
+// Whether a loan table is in order. Each loop ORs flags that are 0 where a word passes, and the sum is tested once.
+use crate::Loans;
+use crate::field;
+ghost use mathlib.Core.Path.{_≡_};
+ghost use mathlib.Core.Bool.{_&&_};
+ghost use lib.ListN.{length};
+ghost use lib.Dec.{eqb, ltb};
+ghost use Rattle.model.specs.Sets.{all};
+ghost use Rattle.model.specs.Loans.{rising, loansInOrder};
+ghost use Rattle.loans.specs.Table.{unmasked, shaped, namesLive};
+
+fn rise_flag(a: u32, b: u32) -> u32
+    ensures { λ r. ⌜ eqb r 0 ≡ ltb a b ⌝ }
+{
+    if a < b {
+        return 0;
+    }
+    1
+}
+
+fn rises(s: &[u32]) -> bool
+    ensures { λ r. ⌜ r ≡ rising (now (s .entry)) ⌝ }
+{
+    let mut bad: u32 = 0;
+    let mut i: usize = 0;
+    while i + 1 < s.len() {
+        let x = rise_flag(s[i], s[i + 1]);
+        bad = bad | x;
+        i += 1;
+    }
+    bad == 0
+}
+
+// 0 where the loan lies below 2 ^ 24 and is not of right 0.
+fn shape_flag(w: u32) -> u32
+    ensures { λ r. ⌜ eqb r 0 ≡ shaped w ⌝ }
+{
+    if field::right(w) == 0 {
+        return 1;
+    }
+    w / 16777216
+}
+
+fn are_shaped(s: &[u32]) -> bool
+    ensures { λ r. ⌜ r ≡ all shaped (now (s .entry)) ⌝ }
+{
+    let mut bad: u32 = 0;
+    let mut i: usize = 0;
+    while i < s.len() {
+        let x = shape_flag(s[i]);
+        bad = bad | x;
+        i += 1;
+    }
+    bad == 0
+}
+
+// 0 where every item that the loan names lives.
+fn names_flag(w: u32, masks: &[u8; 64]) -> u8
+    ensures { λ r. ⌜ eqb r 0 ≡ namesLive (unmasked (now (masks .entry))) w ⌝ }
+{
+    let p = field::lender(w) as usize;
+    let i = field::item(w) as usize;
+    let q = field::borrower(w) as usize;
+    masks[p] | masks[i] | masks[q]
+}
+
+fn are_live(s: &[u32], masks: &[u8; 64]) -> bool
+    ensures { λ r. ⌜ r ≡ all (namesLive (unmasked (now (masks .entry)))) (now (s .entry)) ⌝ }
+{
+    let mut bad: u8 = 0;
+    let mut i: usize = 0;
+    while i < s.len() {
+        let x = names_flag(s[i], masks);
+        bad = bad | x;
+        i += 1;
+    }
+    bad == 0
+}
+
+fn are_zero(s: &[u32]) -> bool
+    ensures { λ r. ⌜ r ≡ all (eqb 0) (now (s .entry)) ⌝ }
+{
+    let mut bad: u32 = 0;
+    let mut i: usize = 0;
+    while i < s.len() {
+        bad = bad | s[i];
+        i += 1;
+    }
+    bad == 0
+}
+
+// Whether the slice is a table in order, by a mask of the living items: 0 where one lives, 255 where not.
+pub fn in_order(loans: &[u32], masks: &[u8; 64]) -> bool
+    ensures { λ r. ⌜ r ≡ eqb (length (now (loans .entry))) 1025 && loansInOrder (unmasked (now (masks .entry))) (now (loans .entry)) ⌝ }
+{
+    if loans.len() != Loans::WORDS {
+        return false;
+    }
+    if crate::count_of(loans) > Loans::MAX {
+        return false;
+    }
+    let n = crate::in_use(loans);
+    if !rises(&loans[1..n + 1]) {
+        return false;
+    }
+    if !are_shaped(&loans[1..n + 1]) {
+        return false;
+    }
+    if !are_live(&loans[1..n + 1], masks) {
+        return false;
+    }
+    are_zero(&loans[n + 1..])
+}
