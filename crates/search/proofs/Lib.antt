@@ -1,0 +1,4 @@
+pub mod Picking
+pub mod Rounds
+pub mod Trace
+pub mod Outcome

@@ -1,0 +1,68 @@
+-- From what the parts of the search say to what the search says.
+use mathlib.Core.Path.{_≡_, sym, ap, _∙_}
+use mathlib.Core.List.{List, [], _++_}
+use Prim.Native.Nat.{ℕ, _+_, _-_, _*_, _≤_}
+use native.Mathlib.Omega.{arith}
+use native.Mathlib.Decide.{decLt}
+use mathlib.Core.Logic.{by-cases}
+use lib.Dec.{eqb}
+use lib.ListN.{getD, drop, take, replicate}
+use Rattle.model.specs.Sets.{keep, tabulate, most, firstAt}
+use Rattle.model.specs.Loans.{countOf, used}
+use Rattle.model.specs.Search.{keyOf, picked, grantRound, roundAt, column, traced, roundsOf, heightOf, lengthOf, foundOf, chainOf}
+use Rattle.model.specs.Answers.{nothing}
+use Rattle.model.proofs.Search.{bounded, yesFound, found-no, found-yes}
+use Rattle.model.proofs.Indexed.{getD-tabulate, first-most}
+
+-- no entry is above 8, since a grant byte has no depth above 7
+height-le : (gs t : List ℕ) (key who : ℕ) → who ≤ 63 → heightOf gs t key who ≤ 8
+unfolding roundsOf heightOf
+height-le gs t key who h =
+    let first : List ℕ = grantRound gs (8 + 64 * key) in
+    let f : ℕ → ℕ = column (roundsOf gs t key) who in
+    by-cases (decLt 0 (most f 8))
+    (λ l. let m = first-most f 8 l in
+    let k : ℕ = firstAt f 8 in
+    let e : f k ≡ getD (roundAt first (picked t key) k) who 0 =
+    ap (λ (x : List ℕ). getD x who 0) (getD-tabulate 8 (roundAt first (picked t key)) k [] (m .0)) in
+    omega (arith, bounded gs (8 + 64 * key) (picked t key) k who (omega arith)))
+    (λ l. omega arith)
+
+-- what the code has before it answers
+pub record Searched (gs t : List ℕ) (key who : ℕ) (ls : List ℕ) (rounds : List (List ℕ)) (value at : ℕ) : Type 0 where
+  pub loans-are : ls ≡ picked t key
+  pub rounds-are : rounds ≡ roundsOf gs t key
+  pub height-is : value ≡ heightOf gs t key who
+  pub height-in : value ≤ 8
+  pub length-is : at ≡ lengthOf gs t key who
+
+-- n loans are in use, k is the key and p the person
+pub searched : (gs t : List ℕ) (key who n k p : ℕ) (first ls : List ℕ) (rounds : List (List ℕ)) (value at : ℕ) → n ≡ countOf t → k ≡ key → p ≡ who → who ≤ 63
+    → ls ≡ keep (λ w. eqb (keyOf w) k) (take (n + 1 - 1) (drop 1 t)) → first ≡ grantRound gs (8 + 64 * k) → rounds ≡ tabulate 8 (roundAt first ls)
+    → value ≡ most (column rounds p) 8 → at ≡ firstAt (column rounds p) 8 → Searched gs t key who ls rounds value at
+unfolding used picked roundsOf heightOf lengthOf
+searched gs t key who n k p first ls rounds value at n-is k-is p-is h l f r v a =
+    let m : n + 1 - 1 ≡ countOf t = omega arith in
+    let e : ls ≡ picked t key = l ∙ (λ j. keep (λ w. eqb (keyOf w) (k-is j)) (take (m j) (drop 1 t))) in
+    let g : first ≡ grantRound gs (8 + 64 * key) = f ∙ (λ j. grantRound gs (8 + 64 * k-is j)) in
+    let s : rounds ≡ roundsOf gs t key = r ∙ (λ j. tabulate 8 (roundAt (g j) (e j))) in
+    let u : value ≡ heightOf gs t key who = v ∙ (λ j. most (column (s j) (p-is j)) 8) in
+    record {
+      loans-are = e;
+      rounds-are = s;
+      height-is = u;
+      height-in = omega (arith, height-le gs t key who h);
+      length-is = a ∙ (λ j. firstAt (column (s j) (p-is j)) 8);
+    }
+
+module _ {gs t : List ℕ} {key who : ℕ} {ls : List ℕ} {rounds : List (List ℕ)} {value at : ℕ} (s : Searched gs t key who ls rounds value at) where
+  pub said-no : value ≡ 0 → (nothing ≡ foundOf gs t key who) × (replicate 8 255 ≡ chainOf gs t key who)
+  said-no e = let a = found-no gs t key who (sym (s .height-is) ∙ e) in (sym (a .0), sym (a .1))
+
+  pub said-yes : (p : ℕ) → p ≡ who → (value ≡ 0 → ⊥)
+      → (yesFound value at ≡ foundOf gs t key who) × (traced rounds ls at p ++ replicate (7 - at) 255 ≡ chainOf gs t key who)
+  said-yes p p-is ne =
+      let a = found-yes gs t key who (λ e. ne (s .height-is ∙ e)) in (
+        (λ j. yesFound (s .height-is j) (s .length-is j)) ∙ sym (a .0),
+        (λ j. traced (s .rounds-are j) (s .loans-are j) (s .length-is j) (p-is j) ++ replicate (7 - s .length-is j) 255) ∙ sym (a .1),
+      )

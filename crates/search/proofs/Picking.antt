@@ -1,0 +1,36 @@
+-- A loop that picks what passes a test: each element is written, and the place moves on where it passes.
+use mathlib.Core.Path.{_≡_, refl, sym, ap, _∙_}
+use mathlib.Core.Bool.{Bool, true, false, cond}
+use mathlib.Core.List.{List, [], _∷_, _++_, append-nil}
+use Prim.Native.Nat.{ℕ, _+_, _<_}
+use native.Mathlib.Omega.{arith}
+use native.Mathlib.Nat.{add-zero}
+use native.Mathlib.Numerals.{add-one}
+use lib.ListN.{length, getD, set, take}
+use lib.Seq.{take-suc, take-suc-set, take-set-le}
+use Rattle.model.specs.Sets.{keep}
+
+pub keep-append : (t : ℕ → Bool) (xs ys : List ℕ) → keep t (xs ++ ys) ≡ keep t xs ++ keep t ys
+unfolding keep
+keep-append t [] ys = refl
+keep-append t (x ∷ xs) ys = go (t x) (keep-append t xs ys)
+  where
+    go : (b : Bool) → keep t (xs ++ ys) ≡ keep t xs ++ keep t ys → cond b (x ∷ keep t (xs ++ ys)) (keep t (xs ++ ys)) ≡ cond b (x ∷ keep t xs) (keep t xs) ++ keep t ys
+    go true e = ap (_∷_ x) e
+    go false e = e
+
+-- one element more, which moves the place by n
+module _ (t : ℕ → Bool) (ls out : List ℕ) (m i : ℕ) (h : i < length ls) (room : m < length out) (so-far : take m out ≡ keep t (take i ls)) where
+  abbrev x : ℕ
+  x = getD ls i 0
+
+  written : (b : Bool) → take (m + cond b 1 0) (set out m x) ≡ keep t (take i ls) ++ cond b (x ∷ []) []
+  written true = ap (λ (k : ℕ). take k (set out m x)) (add-one m) ∙ take-suc-set out m x room ∙ ap (λ (l : List ℕ). l ++ (x ∷ [])) so-far
+  written false =
+      ap (λ (k : ℕ). take k (set out m x)) (add-zero m) ∙ take-set-le m out m x (omega arith) ∙ so-far ∙ sym (append-nil (keep t (take i ls)))
+
+  pub pick-more : (n : ℕ) → n ≡ cond (t (getD ls i 0)) 1 0 → take (m + n) (set out m (getD ls i 0)) ≡ keep t (take (i + 1) ls)
+  unfolding keep
+  pick-more n e =
+      ap (λ (k : ℕ). take (m + k) (set out m x)) e ∙ written (t x)
+      ∙ sym ((λ j. keep t (take (add-one i j) ls)) ∙ ap (keep t) (take-suc ls i 0 h) ∙ keep-append t (take i ls) (x ∷ []))

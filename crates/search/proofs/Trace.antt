@@ -1,0 +1,72 @@
+-- Laws of the loop that reads a chain off the rounds, and of the loop that finds a lender for it.
+use mathlib.Core.Path.{_≡_, refl, sym, _∙_}
+use mathlib.Core.Bool.{Bool, true, false, cond}
+use mathlib.Core.List.{List, [], _∷_, _++_, append-assoc}
+use Prim.Native.Nat.{ℕ, zero, suc, _+_, _-_, _<_}
+use native.Mathlib.Omega.{arith}
+use native.Mathlib.Nat.{suc-sub-suc, sub-zero, zero-sub}
+use native.Mathlib.Numerals.{add-one}
+use lib.Dec.{eqb}
+use borrow.Author.Tests.{eq-eqb, ne-eqb}
+use lib.ListN.{length, getD, set, drop, replicate, length-set}
+use lib.Seq.{getD-set-same, drop-cons, drop-set-lt}
+use Rattle.model.specs.Loans.{lender}
+use Rattle.model.specs.Search.{arrive, arriving, column, lenderTo, traced}
+
+pub lender-more : (ls round : List ℕ) (q v i : ℕ)
+    → lenderTo ls round q v (i + 1) ≡ cond (eqb (arriving ls round q i) v) (lender (getD ls i 0)) (lenderTo ls round q v i)
+unfolding lenderTo
+lender-more ls round q v i = rw add-one
+
+-- the loan w, whose lender is p and which passes x on to q
+module _ (round : List ℕ) (w q v p x last : ℕ) (from : p ≡ lender w) (got : x ≡ arrive (getD round p 0) w q) where
+  passed : x ≡ arrive (getD round (lender w) 0) w q
+  passed = got ∙ (λ j. arrive (getD round (from j) 0) w q)
+
+  pub lender-here : x ≡ v → p ≡ cond (eqb (arrive (getD round (lender w) 0) w q) v) (lender w) last
+  lender-here e = rw (eq-eqb _ _ (sym passed ∙ e)) from
+
+  pub lender-else : (x ≡ v → ⊥) → last ≡ cond (eqb (arrive (getD round (lender w) 0) w q) v) (lender w) last
+  lender-else ne = rw (ne-eqb _ _ (λ e. ne (passed ∙ e)))
+
+pub lender-lt : (ls round : List ℕ) (q v n : ℕ) → lenderTo ls round q v n < 64
+unfolding lenderTo
+lender-lt ls round q v zero = omega arith
+lender-lt ls round q v (suc i) = go (eqb (arriving ls round q i) v) (lender-lt ls round q v i)
+  where
+    go : (b : Bool) → lenderTo ls round q v i < 64 → cond b (lender (getD ls i 0)) (lenderTo ls round q v i) < 64
+    go true h = omega arith
+    go false h = h
+
+-- a store at k is the first of what is left from k on
+drop-at-set : (l : List ℕ) (k q : ℕ) → k < length l → drop k (set l k q) ≡ q ∷ drop (suc k) l
+drop-at-set l k q h =
+    drop-cons (set l k q) k 0 (simp length-set h)
+    ∙ (λ j. getD-set-same l k q 0 h j ∷ drop-set-lt (suc k) l k q (omega arith) j)
+
+-- one person more, written in place k, before those that follow
+pub traced-step : (rounds : List (List ℕ)) (ls l : List ℕ) (k q : ℕ) → 0 < k → k < length l
+    → traced rounds ls k q ++ drop (suc k) l
+    ≡ traced rounds ls (k - 1) (lenderTo ls (getD rounds (k - 1) []) q (column rounds q k) (length ls)) ++ drop (suc (k - 1)) (set l k q)
+unfolding traced
+traced-step rounds ls l zero q p h = absurd (omega arith)
+traced-step rounds ls l (suc k) q p h =
+    let e : suc k - 1 ≡ k = omega arith in
+    append-assoc (traced rounds ls k (lenderTo ls (getD rounds k []) q (column rounds q (suc k)) (length ls))) (q ∷ []) (drop (suc (suc k)) l)
+    ∙ rw e (rw (drop-at-set l (suc k) q h) refl)
+
+pub traced-end : (rounds : List (List ℕ)) (ls l : List ℕ) (q : ℕ) → 0 < length l → traced rounds ls 0 q ++ drop 1 l ≡ set l 0 q
+unfolding traced
+traced-end rounds ls [] q h = absurd (omega arith)
+traced-end rounds ls (x ∷ l) q h = refl
+
+drop-replicate : (j n : ℕ) (a : ℕ) → drop j (replicate n a) ≡ replicate (n - j) a
+drop-replicate zero n a = rw sub-zero refl
+drop-replicate (suc j) zero a = rw zero-sub refl
+drop-replicate (suc j) (suc n) a = drop-replicate j n a ∙ rw suc-sub-suc refl
+
+-- what stands after the end of a chain with `at` loans
+pub padding : (at : ℕ) → at < 8 → drop {A = ℕ} (suc at) (replicate 8 255) ≡ replicate (7 - at) 255
+padding at h =
+    let e : 8 - suc at ≡ 7 - at = omega arith in
+    drop-replicate (suc at) 8 255 ∙ (λ j. replicate (e j) 255)

@@ -1,0 +1,77 @@
+use borrow.Author.Needs.{needs}
+use native.Mathlib.Omega.{arith}
+use mathlib.Core.Path.{_≡_, refl, ap, _∙_}
+use Prim.Native.Nat.{ℕ, _-_, _≤_}
+use Rattle.model.specs.Sets.{most, firstAt}
+use Rattle.model.specs.Search.{column}
+use Rattle.model.proofs.Indexed.{first-le}
+use Rattle.search.proofs.Rounds.{best-more}
+use Rattle.search.proofs.best_of.Statement.{statement}
+use Rattle.search.proofs.best_of.Tie as tie
+
+-- the greatest entry of the first k rounds, and its place
+abbrev Inv-loop : tie.InvT-loop
+Inv-loop rounds who e₀ k₀ e k =
+    (k ≤ 8) × (e .value ≡ most (column rounds who) k) × (e .at ≡ firstAt (column rounds who) k)
+
+abbrev μ-loop : tie.MeasureT-loop
+μ-loop rounds who e₀ k₀ e k = 8 - k
+
+loop-holds : tie.Need-loop-holds Inv-loop μ-loop
+unfolding most firstAt
+loop-holds c = (search needs, refl, refl)
+
+mul-better : tie.Need-mul-better Inv-loop μ-loop
+mul-better c = search needs
+
+mul-better-2 : tie.Need-mul-better-2 Inv-loop μ-loop
+mul-better-2 c = search needs
+
+index-1-better : tie.Need-index-1-better Inv-loop μ-loop
+index-1-better c = search needs
+
+index-2-better : tie.Need-index-2-better Inv-loop μ-loop
+index-2-better c = search needs
+
+better-requires : tie.Need-better-requires Inv-loop μ-loop
+better-requires c κs = search needs
+
+add-k : tie.Need-add-k Inv-loop μ-loop
+add-k c = search needs
+
+loop-less : tie.Need-loop-less Inv-loop μ-loop
+loop-less c = search needs
+
+loop-again : tie.Need-loop-again Inv-loop μ-loop
+loop-again c =
+    let a = c .before .before .before .before .args in
+    let l = c .before .before .before .loop in
+    let b = c .better in
+    let m = best-more (column (a .rounds .now) (a .who)) (l .k) (l .e .value) (l .e .at) (b .result .value) (b .result .at) (l .inv .1) (l .inv .2) (b .ensures .0) (b .ensures .1) in
+    (search needs, m .0, m .1)
+
+returns : tie.Need-returns Inv-loop μ-loop
+returns c =
+    let a = c .before .before .args in
+    let l = c .before .loop in
+    let f : ℕ → ℕ = column (a .rounds .now) (a .who) in
+    let e : l .k ≡ 8 = omega arith in
+    let first : l .e .at ≡ firstAt f 8 = l .inv .2 ∙ ap (firstAt f) e in
+    (l .inv .1 ∙ ap (most f) e, first, omega (arith, first-le f 7))
+
+pub best-of-spec : {M : Type 1} → statement M
+best-of-spec =
+    tie.close
+    (tie.spec
+    Inv-loop
+    μ-loop
+    loop-holds
+    mul-better
+    mul-better-2
+    index-1-better
+    index-2-better
+    better-requires
+    add-k
+    loop-less
+    loop-again
+    returns)

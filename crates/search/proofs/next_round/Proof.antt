@@ -1,0 +1,95 @@
+use lib.ListN.{getD-replicate, length, getD, length-set}
+use borrow.Author.Needs.{needs}
+use native.Mathlib.Omega.{arith}
+use mathlib.Core.Path.{_≡_, refl, ap, _∙_}
+use Prim.Native.Nat.{ℕ, _-_, _≤_, _<_}
+use Rattle.model.specs.Sets.{most}
+use Rattle.model.specs.Search.{arriving, nextRound}
+use Rattle.model.proofs.Indexed.{tabulate-ext}
+use Rattle.search.proofs.Rounds.{raise-more}
+use Rattle.search.proofs.next_round.Statement.{statement}
+use Rattle.search.proofs.next_round.Tie as tie
+
+-- each entry is the greatest of what the first i loans pass on
+abbrev Inv-loop : tie.InvT-loop
+Inv-loop ls round next₀ i₀ next i =
+    (i ≤ length ls) × (length next ≡ 64) × ((q : ℕ) → q < 64 → getD next q 0 ≡ most (arriving ls round q) i)
+
+abbrev μ-loop : tie.MeasureT-loop
+μ-loop ls round next₀ i₀ next i = length ls - i
+
+loop-holds : tie.Need-loop-holds Inv-loop μ-loop
+unfolding most
+loop-holds c = (search needs, refl, λ q h. getD-replicate 64 q 0 0 h)
+
+mul-w : tie.Need-mul-w Inv-loop μ-loop
+mul-w c = search needs
+
+shared-slice-read-w : tie.Need-shared-slice-read-w Inv-loop μ-loop
+shared-slice-read-w c = search needs
+
+lender-of-requires : tie.Need-lender-of-requires Inv-loop μ-loop
+lender-of-requires c κs = search needs
+
+borrower-of-requires : tie.Need-borrower-of-requires Inv-loop μ-loop
+borrower-of-requires c κs = search needs
+
+mul-gain-of : tie.Need-mul-gain-of Inv-loop μ-loop
+mul-gain-of c = search needs
+
+element-copy-out-gain-of : tie.Need-element-copy-out-gain-of Inv-loop μ-loop
+element-copy-out-gain-of c = search needs
+
+gain-of-requires : tie.Need-gain-of-requires Inv-loop μ-loop
+gain-of-requires c κs = search needs
+
+raise-requires : tie.Need-raise-requires Inv-loop μ-loop
+raise-requires c κs = search needs
+
+add-i : tie.Need-add-i Inv-loop μ-loop
+add-i c = search needs
+
+loop-less : tie.Need-loop-less Inv-loop μ-loop
+loop-less c = search needs
+
+loop-again : tie.Need-loop-again Inv-loop μ-loop
+loop-again c =
+    let a = c .before .before .before .before .before .before .before .before .before .before .args in
+    let l = c .before .before .before .before .before .before .before .before .loop in
+    let p = c .before .before .before .before .before .lender-of in
+    let b = c .before .before .before .before .borrower-of in
+    let g = c .before .before .gain-of in
+    let r = c .raise .ensures in (
+      search needs,
+      ap length r ∙ simp length-set (l .inv .1),
+      rw r
+          (raise-more (a .ls .now) (a .round .now) (l .next) (l .i) (p .result) (b .result) (g .result) (p .ensures) (b .ensures) (g .ensures) (l .inv .1) (l .inv .2)),
+    )
+
+returns : tie.Need-returns Inv-loop μ-loop
+unfolding nextRound
+returns c =
+    let a = c .before .before .before .args in
+    let l = c .before .loop in
+    let e : l .i ≡ length (a .ls .now) = omega arith in
+    tabulate-ext 64 _ 0 (l .next) (l .inv .1) (λ q h. l .inv .2 q h ∙ ap (most (arriving (a .ls .now) (a .round .now) q)) e)
+
+pub next-round-spec : {M : Type 1} → statement M
+next-round-spec =
+    tie.close
+    (tie.spec
+    Inv-loop
+    μ-loop
+    loop-holds
+    mul-w
+    shared-slice-read-w
+    lender-of-requires
+    borrower-of-requires
+    mul-gain-of
+    element-copy-out-gain-of
+    gain-of-requires
+    raise-requires
+    add-i
+    loop-less
+    loop-again
+    returns)
