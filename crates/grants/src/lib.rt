@@ -1,0 +1,110 @@
+// The grants image of a chain unit, 32,776 bytes: bytes 0 to 7 are the live set, least first; byte 8 + 512 * on + 64 * right + person
+// has bit d for each depth d of the person's grants there. These are helpers for the chain unit: it has judged lengths and ranges, so
+// each function may require them.
+use model::Depth;
+use model::Item;
+use model::Right;
+use model::byte;
+use model::bytes;
+use model::live;
+ghost use mathlib.Core.Path.{_≡_};
+ghost use Prim.Native.Nat.{_+_, _*_, _<_};
+ghost use lib.ListN.{length, getD};
+ghost use Rattle.model.specs.declared.Command.the-variants.{Create, Delete, Allow, Withdraw};
+ghost use Rattle.model.specs.Live.{masksOf};
+ghost use Rattle.model.specs.Unit.{grantBytes, held, inOrder, after, freshImage};
+
+mod scan;
+
+// The two bytes of a fresh image that are not 0: the first of the live set, and the root item's edit grant on itself.
+pub struct Grants {
+    pub live: u8,
+    pub edit: u8,
+}
+
+impl Grants {
+    // The bytes of an image.
+    pub const BYTES: usize = 32776;
+
+    pub fn fresh() -> Grants
+        ensures { λ r. ⌜ (r .live ≡ getD (freshImage grantBytes) 0 0) × (r .edit ≡ getD (freshImage grantBytes) 8 0) ⌝ }
+    {
+        Grants { live: 1, edit: 1 }
+    }
+}
+
+// Whatever the buffer held is overwritten.
+pub fn fresh(image: &mut [u8])
+    requires { ⌜ length (now image) ≡ 32776 ⌝ }
+    ensures { λ _. ⌜ now (image .exit) ≡ freshImage grantBytes ⌝ }
+{
+    let start = Grants::fresh();
+    bytes::clear_each(image, 0, 1, Grants::BYTES);
+    image[0] = start.live;
+    image[8] = start.edit;
+}
+
+// Whether item 0 lives and no dead item is named. The chain unit makes the masks, since its loans are judged by them too.
+pub fn in_order(image: &[u8], masks: &[u8; 64]) -> bool
+    requires { ⌜ (length (now image) ≡ 32776) × (now masks ≡ masksOf (now image)) ⌝ }
+    ensures { λ r. ⌜ r ≡ inOrder grantBytes (now (image .entry)) ⌝ }
+{
+    if !byte::has(image[0], 0) {
+        return false;
+    }
+    scan::items_ok(image, masks)
+}
+
+// Where the byte of a person, an item and a right stands.
+fn place(who: Item, on: Item, right: Right) -> usize
+    requires { ⌜ (who .0 < 64) × (on .0 < 64) × (right .0 < 8) ⌝ }
+    ensures { λ r. ⌜ (r ≡ 8 + (512 * on .0 + 64 * right .0 + who .0)) × (r < 32776) ⌝ }
+{
+    8 + (512 * on.number() + 64 * right.number() + who.number()) as usize
+}
+
+// Whether the person has a grant there, of any depth.
+pub fn holds(image: &[u8], who: Item, on: Item, right: Right) -> bool
+    requires { ⌜ (length (now image) ≡ 32776) × (who .0 < 64) × (on .0 < 64) × (right .0 < 8) ⌝ }
+    ensures { λ r. ⌜ r ≡ held grantBytes (now (image .entry)) (who .0) (on .0) (right .0) ⌝ }
+{
+    let at = place(who, on, right);
+    image[at] != 0
+}
+
+pub fn put_grant(image: &mut [u8], to: Item, on: Item, right: Right, depth: Depth)
+    requires { ⌜ (length (now image) ≡ 32776) × (to .0 < 64) × (on .0 < 64) × (right .0 < 8) × (depth .0 < 8) ⌝ }
+    ensures { λ _. ⌜ now (image .exit) ≡ after grantBytes (now (image .entry)) (Allow 0 (to .0) (on .0) (right .0) (depth .0)) ⌝ }
+{
+    let at = place(to, on, right);
+    image[at] = byte::with(image[at], depth.number());
+}
+
+// Every depth ends.
+pub fn drop_grants(image: &mut [u8], to: Item, on: Item, right: Right)
+    requires { ⌜ (length (now image) ≡ 32776) × (to .0 < 64) × (on .0 < 64) × (right .0 < 8) ⌝ }
+    ensures { λ _. ⌜ now (image .exit) ≡ after grantBytes (now (image .entry)) (Withdraw 0 (to .0) (on .0) (right .0)) ⌝ }
+{
+    let at = place(to, on, right);
+    image[at] = 0;
+}
+
+// The item into the live set, with an edit grant of depth 0 to its maker.
+pub fn put_item(image: &mut [u8], by: Item, on: Item)
+    requires { ⌜ (length (now image) ≡ 32776) × (by .0 < 64) × (on .0 < 64) ⌝ }
+    ensures { λ _. ⌜ now (image .exit) ≡ after grantBytes (now (image .entry)) (Create (by .0) (on .0)) ⌝ }
+{
+    live::insert(image, on);
+    put_grant(image, by, on, Right::edit(), Depth::zero());
+}
+
+// The item out of the live set, its own block of bytes, then its byte as a person in each row of 64.
+pub fn drop_item(image: &mut [u8], on: Item)
+    requires { ⌜ (length (now image) ≡ 32776) × (on .0 < 64) ⌝ }
+    ensures { λ _. ⌜ now (image .exit) ≡ after grantBytes (now (image .entry)) (Delete 0 (on .0)) ⌝ }
+{
+    live::remove(image, on);
+    let k = on.number() as usize;
+    bytes::clear_each(image, 8 + 512 * k, 1, 512);
+    bytes::clear_each(image, 8 + k, 64, 512);
+}
