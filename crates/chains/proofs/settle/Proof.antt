@@ -1,0 +1,58 @@
+use borrow.Author.Needs.{needs}
+use Rattle.model.proofs.ChainEnds.{chain-judged-stops, chain-judged-goes}
+use Rattle.chains.proofs.Arms.{accepted}
+use Rattle.model.specs.Commands.{rawOf}
+use Rattle.model.specs.Images.{images}
+use Rattle.chains.proofs.settle.Statement.{statement}
+use Rattle.chains.proofs.settle.Tie as tie
+
+facts-requires : tie.Need-facts-requires
+facts-requires c κs = search needs
+
+judge-requires : tie.Need-judge-requires
+judge-requires c κs = search needs
+
+number-requires : tie.Need-number-requires
+number-requires c κs = search needs
+
+same-length : tie.Need-same-length
+same-length c = search needs
+
+same-length-2 : tie.Need-same-length-2
+same-length-2 c = search needs
+
+returns : tie.Need-returns
+returns c =
+    let start = c .before .before .before .before .before .before .before .before in
+    chain-judged-stops (images (start .args .image .now) (start .args .table .now)) (rawOf (start .args .t)) _ _ _ (c .before .before .before .facts .ensures) (c .before .before .judge .ensures) (c .before .number .ensures) (c .if1 .taken)
+
+apply-requires : tie.Need-apply-requires
+apply-requires c κs =
+    let start = c .before .before .before .before .before .before .before .before .before .before in
+    accepted (images (start .args .image .now) (start .args .table .now)) (rawOf (start .args .t)) _ _ _ (start .pre) (c .before .before .before .before .before .facts .ensures) (c .before .before .before .before .judge .ensures) (c .before .before .before .number .ensures) (c .before .before .if1 .left)
+
+same-length-3 : tie.Need-same-length-3
+same-length-3 c = search needs
+
+same-length-4 : tie.Need-same-length-4
+same-length-4 c = search needs
+
+returns-2 : tie.Need-returns-2
+returns-2 c =
+    let start = c .before .before .before .before .before .before .before .before .before .before .before .before .before .before .before in
+    chain-judged-goes (images (start .args .image .now) (start .args .table .now)) (rawOf (start .args .t)) _ _ _ _ (c .before .before .before .before .before .before .before .before .before .before .facts .ensures) (c .before .before .before .before .before .before .before .before .before .judge .ensures) (c .before .before .before .before .before .before .before .before .number .ensures) (c .before .before .before .before .before .before .before .if1 .left) (c .before .before .before .before .apply .ensures)
+
+pub settle-spec : {M : Type 1} → statement M
+settle-spec =
+    tie.close
+    (tie.spec
+    facts-requires
+    judge-requires
+    number-requires
+    same-length
+    same-length-2
+    returns
+    apply-requires
+    same-length-3
+    same-length-4
+    returns-2)
