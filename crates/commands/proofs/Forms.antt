@@ -1,0 +1,73 @@
+-- Every line of the output has one of the forms that document 01 shows.
+use mathlib.Core.Path.{_≡_, refl, sym, subst}
+use mathlib.Core.Bool.{Bool, true, false, cond}
+use mathlib.Core.List.{List, [], _∷_, _++_}
+use Prim.Native.Nat.{ℕ, _+_}
+use lib.ListN.{length, length-map}
+use lib.Seq.{take-length}
+use Rattle.model.specs.Answers.{answer, asked}
+use Rattle.model.specs.Journal.{Journal, facts, hasGrant}
+use Rattle.model.specs.Unit.{flat}
+use Rattle.model.specs.Chain.{granted, lent}
+use Rattle.model.specs.Agreement.{JournalChain}
+use Rattle.commands.specs.declared.Parsed.{Parsed}
+use Rattle.commands.specs.declared.Parsed.the-variants.{Run, Ask, Malformed}
+use Rattle.commands.specs.declared.reply.Said.the-variants.{Number, Yes, No}
+use Rattle.commands.specs.declared.reply.Tail.the-variants.{Nothing, Dashes, Chain}
+use Rattle.commands.specs.Collect.{linesOf, parsedOf}
+use Rattle.commands.specs.Output.{saidText, persons, tailText, outputLine, reply, offeredSaid}
+use Rattle.commands.specs.Program.{outputOf}
+use Rattle.commands.specs.Text as text
+use Rattle.commands.specs.Text.{grantSaid, CheckLine, LineAllowed, Allowed}
+use Rattle.commands.specs.Forms.{Form, numbers, passed, refused, no, yes, Formed, last, next}
+use Rattle.commands.proofs.Text.{text-agreement}
+
+command-form : (n : ℕ) (b : Bool) (a : ℕ) → Form n (outputLine n (reply (offeredSaid b a) (offeredSaid b a) (Number a) Nothing) [])
+unfolding outputLine saidText tailText
+command-form n true a = numbers a
+command-form n false a = passed a
+
+none-form : (n : ℕ) (b : Bool) → Form n (outputLine n (reply (cond b Yes No) (cond b Yes No) No Dashes) [])
+unfolding outputLine saidText tailText
+none-form n true = no true
+none-form n false = no false
+
+found-form : (n : ℕ) (b : Bool) (d p : ℕ) (ps : List ℕ)
+    → Form n (outputLine n (reply (cond b Yes No) (cond b Yes No) Yes (Chain d (length (p ∷ ps)))) (p ∷ ps))
+unfolding outputLine saidText tailText persons
+found-form n true d p ps = rw (take-length ps) (yes true d p ps)
+found-form n false d p ps = rw (take-length ps) (yes false d p ps)
+
+refused-form : (n a : ℕ) → Form n (outputLine n (reply (Number a) (Number a) (Number a) Dashes) [])
+unfolding outputLine saidText tailText
+refused-form n a = refused a
+
+-- a chain has a person
+some : (ps : List ℕ) (p : ℕ) → (q : ℕ) × (qs : List ℕ) × (ps ++ (p ∷ []) ≡ q ∷ qs)
+some [] p = (p, [], refl)
+some (q ∷ ps) p = (q, ps ++ (p ∷ []), refl)
+
+chain-some : (j : Journal) (o r : ℕ) {ps : List ℕ} {p a : ℕ} → JournalChain j o r ps p a → (q : ℕ) × (qs : List ℕ) × (ps ≡ q ∷ qs)
+chain-some j o r (granted {p} h) = (p, [], refl)
+chain-some j o r (lent {ps} l s c) = some ps (l .borrower)
+
+check-form : {j : Journal} {n p o r : ℕ} {t : List ℕ} → CheckLine j n p o r t → Form n t
+check-form {j} {n} {p} {o} {r} (text.refused h) = refused-form n (asked p o r)
+check-form {j} {n} {p} {o} {r} (text.none e h) = none-form n (hasGrant j p o r)
+check-form {j} {n} {p} {o} {r} (text.found e g) =
+    let s = chain-some j o r (g .chain) in
+    subst (λ (ps : List ℕ). Form n (outputLine n (reply (grantSaid j p o r) (grantSaid j p o r) Yes (Chain (g .depth) (length ps))) ps)) (sym (s .2))
+    (found-form n (hasGrant j p o r) (g .depth) (s .0) (s .1))
+
+line-form : (j : Journal) (n : ℕ) (x : Parsed) (t : List ℕ) → LineAllowed j n x t → Form n t
+line-form j n (Run c) t e = subst (Form n) (sym e) (command-form n (flat c) (answer (facts j c) c))
+line-form j n (Ask who on right) t e = check-form e
+line-form j n Malformed t e = subst (Form n) (sym e) (command-form n true 11)
+
+formed : {j : Journal} {n : ℕ} {xs : List Parsed} {t : List ℕ} → Allowed j n xs t → Formed n (length xs) t
+formed text.last = last
+formed {j} {n} (text.next {x = x} t a rest) = next t (line-form j (n + 1) x t a) (formed rest)
+
+-- one line of output for each line of input, and the last
+pub output-formed : (input : List ℕ) → Formed 0 (length (linesOf input)) (outputOf input)
+output-formed input = subst (λ (k : ℕ). Formed 0 k (outputOf input)) (length-map (linesOf input) parsedOf) (formed (text-agreement input))

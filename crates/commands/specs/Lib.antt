@@ -1,0 +1,10 @@
+pub mod Bytes
+pub mod Line
+pub mod Show
+pub mod Grammar
+pub mod Collect
+pub mod Chunks
+pub mod Output
+pub mod Program
+pub mod Text
+pub mod Forms
