@@ -10,11 +10,11 @@ use Rattle.model.specs.Journal.{Journal, facts, hasGrant}
 use Rattle.model.specs.Unit.{flat}
 use Rattle.model.specs.Chain.{granted, lent}
 use Rattle.model.specs.Agreement.{JournalChain}
-use Rattle.commands.specs.declared.Parsed.{Parsed}
-use Rattle.commands.specs.declared.Parsed.the-variants.{Run, Ask, Malformed}
+use Rattle.lines.specs.declared.Parsed.{Parsed}
+use Rattle.lines.specs.declared.Parsed.the-variants.{Run, Ask, Malformed}
 use Rattle.commands.specs.declared.reply.Said.the-variants.{Number, Yes, No}
 use Rattle.commands.specs.declared.reply.Tail.the-variants.{Nothing, Dashes, Chain}
-use Rattle.commands.specs.Collect.{linesOf, parsedOf}
+use Rattle.lines.specs.Collect.{linesOf, parsedOf}
 use Rattle.commands.specs.Output.{saidText, persons, tailText, outputLine, reply, offeredSaid}
 use Rattle.commands.specs.Program.{outputOf}
 use Rattle.commands.specs.Text as text

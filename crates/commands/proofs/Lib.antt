@@ -1,14 +1,9 @@
-pub mod Line
-pub mod Decimal
-pub mod Values
-pub mod Grammar
 pub mod Written
+pub mod Start
 pub mod Replies
-pub mod Long
-pub mod Chunks
-pub mod Cuts
 pub mod Text
 pub mod Program
+pub mod Session
 pub mod Forms
 pub mod Split
 pub mod Listing

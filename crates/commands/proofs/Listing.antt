@@ -3,11 +3,11 @@ use mathlib.Core.Path.{_≡_, refl}
 use Prim.Native.Nat.{ℕ}
 use mathlib.Core.List.{List, [], _∷_, _++_}
 use Rattle.model.specs.declared.Command.the-variants.{Create, Allow, Withdraw, Lend}
-use Rattle.commands.specs.declared.Parsed.the-variants.{Run, Ask, Malformed}
-use Rattle.commands.specs.Bytes.{bytes}
-use Rattle.commands.specs.Show.{shown}
-use Rattle.commands.specs.Line.{parseLine, createLine, allowLine, withdrawLine, lendLine, checkLine, itemAt, rightAt, grantAt, checkAt, andThen, fieldAt, numberAt, decimal}
-use Rattle.commands.specs.Collect.{linesFrom}
+use Rattle.lines.specs.declared.Parsed.the-variants.{Run, Ask, Malformed}
+use Rattle.lines.specs.Bytes.{bytes}
+use Rattle.lines.specs.Show.{shown}
+use Rattle.lines.specs.Line.{parseLine, createLine, allowLine, withdrawLine, lendLine, checkLine, itemAt, rightAt, grantAt, checkAt, andThen, fieldAt, numberAt, decimal}
+use Rattle.lines.specs.Collect.{linesFrom}
 use Rattle.commands.specs.Output.{newline, lastOutput}
 use Rattle.commands.specs.Program.{asksOf, outputFrom, outputOf}
 

@@ -5,14 +5,14 @@ use mathlib.Core.List.{List, [], _∷_, _++_, map}
 use Prim.Native.Nat.{ℕ, _+_, _≤_}
 use lib.ListN.{length, drop}
 use Rattle.model.specs.Agreement.{Units, freshUnits}
-use Rattle.commands.specs.declared.Parsed.{Parsed}
-use Rattle.commands.specs.declared.Parsed.the-variants.{Malformed}
-use Rattle.commands.specs.Line.{parseLine}
-use Rattle.commands.specs.Collect.{linesFrom, parsedOf, beforeNewline, endsIn, usedIn}
-use Rattle.commands.specs.Chunks.{whole}
+use Rattle.lines.specs.declared.Parsed.{Parsed}
+use Rattle.lines.specs.declared.Parsed.the-variants.{Malformed}
+use Rattle.lines.specs.Line.{parseLine}
+use Rattle.lines.specs.Collect.{linesFrom, parsedOf, beforeNewline, endsIn, usedIn}
+use Rattle.lines.specs.Chunks.{whole}
 use Rattle.commands.specs.Output.{outputLine, lastOutput, replyOf, viaOf, unitsAfter}
 use Rattle.commands.specs.Program.{outputFrom, outputOf, outputDue, outputOfChunks}
-use Rattle.commands.proofs.Cuts.{cut-anywhere, lines-ended, lines-open, open-all}
+use Rattle.lines.proofs.Cuts.{cut-anywhere, lines-ended, lines-open, open-all}
 
 -- for every way to cut the input into chunks, and every line buffer of at least 128 bytes
 pub chunks-same : (buffer : List ℕ) → 128 ≤ length buffer → (chunks : List (List ℕ)) → outputOfChunks buffer chunks ≡ outputOf (whole chunks)

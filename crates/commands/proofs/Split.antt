@@ -9,9 +9,9 @@ use lib.ListN.{length}
 use lib.Dec.{eqb, ltb}
 use Rattle.model.specs.Sets.{all}
 use Rattle.model.proofs.Sets.{by-cases, fst, snd, both}
-use Rattle.commands.specs.Bytes.{bytes}
-use Rattle.commands.specs.Show.{shown, shownIn}
-use Rattle.commands.specs.Collect.{Line, line, linesFrom, linesOf}
+use Rattle.lines.specs.Bytes.{bytes}
+use Rattle.lines.specs.Show.{shown, shownIn}
+use Rattle.lines.specs.Collect.{Line, line, linesFrom, linesOf}
 use Rattle.commands.specs.Output.{morePersons, dashes, newline, lineText, lastOutput}
 use Rattle.commands.specs.Program.{outputOf}
 use Rattle.commands.specs.Forms.{yesNo, Form, numbers, passed, refused, no, yes, Formed, last, next}

@@ -17,8 +17,8 @@ use Rattle.model.specs.ChainUnit.{chainFound, chainBuffer}
 use Rattle.model.specs.Agreement.{JournalChain, Units, freshUnits, Agrees, Answers, Follows}
 use Rattle.model.proofs.Sets.{by-cases}
 use Rattle.model.proofs.Agreement.{agreement}
-use Rattle.commands.specs.declared.Parsed.{Parsed}
-use Rattle.commands.specs.declared.Parsed.the-variants.{Run, Ask, Malformed}
+use Rattle.lines.specs.declared.Parsed.{Parsed}
+use Rattle.lines.specs.declared.Parsed.the-variants.{Run, Ask, Malformed}
 use Rattle.commands.specs.declared.reply.Said.{Said}
 use Rattle.commands.specs.declared.reply.Said.the-variants.{Number, Yes, No}
 use Rattle.commands.specs.declared.reply.Tail.{Tail}

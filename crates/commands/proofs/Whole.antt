@@ -15,12 +15,12 @@ use Rattle.model.specs.Journal.{Loan, Journal, grant, loan, sameGrant, sameLoan
 use Rattle.model.specs.Chain.{granted, lent}
 use Rattle.model.specs.Agreement.{JournalChain}
 use Rattle.model.proofs.Sets.{fst, snd, find}
-use Rattle.commands.specs.declared.Parsed.{Parsed}
-use Rattle.commands.specs.declared.Parsed.the-variants.{Run, Ask}
+use Rattle.lines.specs.declared.Parsed.{Parsed}
+use Rattle.lines.specs.declared.Parsed.the-variants.{Run, Ask}
 use Rattle.commands.specs.declared.reply.Said.the-variants.{Yes, No}
 use Rattle.commands.specs.declared.reply.Tail.the-variants.{Dashes, Chain}
-use Rattle.commands.specs.Bytes.{bytes}
-use Rattle.commands.specs.Show.{shown}
+use Rattle.lines.specs.Bytes.{bytes}
+use Rattle.lines.specs.Show.{shown}
 use Rattle.commands.specs.Output.{outputLine, saidText, tailText, persons, morePersons, newline, lastOutput, reply}
 use Rattle.commands.specs.Program.{outputOf}
 use Rattle.commands.specs.Text.{commandLine, CheckLine, refused, none, found, Allowed, last, next}

@@ -13,8 +13,8 @@ use lib.ListN.{length, take, drop, getD, set, length-append}
 use lib.Seq.{sets, take-suc, take-all}
 use Rattle.commands.specs.declared.reply.Said.{Said}
 use Rattle.commands.specs.declared.reply.Reply.{Reply}
-use Rattle.commands.specs.Bytes.{bytes}
-use Rattle.commands.specs.Show.{shown, Wrote}
+use Rattle.lines.specs.Bytes.{bytes}
+use Rattle.lines.specs.Show.{shown, Wrote}
 use Rattle.commands.specs.Output.{saidText, morePersons, persons, tailText, newline, unitsText, outputLine, room, Puts}
 
 -- one text after another, and no text

@@ -2,8 +2,8 @@
 use mathlib.Core.Bool.{Bool, cond}
 use mathlib.Core.List.{List, [], _++_}
 use Prim.Native.Nat.{ℕ, suc, _+_}
-use Rattle.commands.specs.Bytes.{bytes}
-use Rattle.commands.specs.Show.{shown}
+use Rattle.lines.specs.Bytes.{bytes}
+use Rattle.lines.specs.Show.{shown}
 use Rattle.commands.specs.Output.{morePersons, dashes, lineText, lastOutput}
 
 abbrev pub yesNo : Bool → List ℕ

@@ -1,10 +1,5 @@
-pub mod Bytes
-pub mod Line
-pub mod Show
-pub mod Grammar
-pub mod Collect
-pub mod Chunks
 pub mod Output
 pub mod Program
+pub mod Session
 pub mod Text
 pub mod Forms

@@ -14,15 +14,15 @@ use Rattle.model.specs.Answers.{numberOf}
 use Rattle.model.specs.Unit.{lists, rows, flat, answerOf, checkNumber, checkYes}
 use Rattle.model.specs.ChainUnit.{chainAnswer, chainCheckNumber, chainFound, chainBuffer}
 use Rattle.model.specs.Agreement.{Units, called}
-use Rattle.commands.specs.declared.Parsed.{Parsed}
-use Rattle.commands.specs.declared.Parsed.the-variants.{Run, Ask, Malformed}
+use Rattle.lines.specs.declared.Parsed.{Parsed}
+use Rattle.lines.specs.declared.Parsed.the-variants.{Run, Ask, Malformed}
 use Rattle.commands.specs.declared.reply.Said.{Said}
 use Rattle.commands.specs.declared.reply.Said.the-variants.{Number, Yes, No, Passed}
 use Rattle.commands.specs.declared.reply.Tail.{Tail}
 use Rattle.commands.specs.declared.reply.Tail.the-variants.{Nothing, Dashes, Chain}
 use Rattle.commands.specs.declared.reply.Reply.{Reply}
-use Rattle.commands.specs.Bytes.{bytes}
-use Rattle.commands.specs.Show.{shown}
+use Rattle.lines.specs.Bytes.{bytes}
+use Rattle.lines.specs.Show.{shown}
 
 -- ---- lines of output
 -- 'each unit's field is its number, yes or no; there `-` means that the unit passes the command over'

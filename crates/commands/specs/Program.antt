@@ -2,9 +2,9 @@
 use mathlib.Core.List.{List, [], _∷_, _++_, map}
 use Prim.Native.Nat.{ℕ, _+_}
 use Rattle.model.specs.Agreement.{Units, freshUnits}
-use Rattle.commands.specs.declared.Parsed.{Parsed}
-use Rattle.commands.specs.Collect.{linesFrom, linesOf, parsedOf}
-use Rattle.commands.specs.Chunks.{pieces, emptyWith, collected}
+use Rattle.lines.specs.declared.Parsed.{Parsed}
+use Rattle.lines.specs.Collect.{linesFrom, linesOf, parsedOf}
+use Rattle.lines.specs.Chunks.{pieces, emptyWith, collected}
 use Rattle.commands.specs.Output.{outputLine, lastOutput, replyOf, viaOf, unitsAfter}
 
 -- 'The program goes on after every line': the output for lines that ask for xs, after n lines; '`line` counts from 1'

@@ -10,8 +10,8 @@ use Rattle.model.specs.Journal.{Journal, facts, step, hasGrant}
 use Rattle.model.specs.Unit.{flat}
 use Rattle.model.specs.Chain.{Greatest}
 use Rattle.model.specs.Agreement.{JournalChain}
-use Rattle.commands.specs.declared.Parsed.{Parsed}
-use Rattle.commands.specs.declared.Parsed.the-variants.{Run, Ask, Malformed}
+use Rattle.lines.specs.declared.Parsed.{Parsed}
+use Rattle.lines.specs.declared.Parsed.the-variants.{Run, Ask, Malformed}
 use Rattle.commands.specs.declared.reply.Said.{Said}
 use Rattle.commands.specs.declared.reply.Said.the-variants.{Number, Yes, No}
 use Rattle.commands.specs.declared.reply.Tail.the-variants.{Nothing, Dashes, Chain}

@@ -2,15 +2,15 @@
 use crate::reply::Reply;
 use crate::reply::Said;
 use crate::reply::Tail;
-use crate::show::put_bytes;
-use crate::show::put_number;
+use lines::show::put_bytes;
+use lines::show::put_number;
 ghost use mathlib.Core.Path.{_≡_};
 ghost use mathlib.Core.List.{_++_};
 ghost use Prim.Native.Nat.{_+_, _≤_, min};
 ghost use lib.ListN.{length};
 ghost use Rattle.commands.specs.declared.reply.Tail.the-variants.{Chain};
-ghost use Rattle.commands.specs.Bytes.{bytes};
-ghost use Rattle.commands.specs.Show.{shown, Wrote};
+ghost use Rattle.lines.specs.Bytes.{bytes};
+ghost use Rattle.lines.specs.Show.{shown, Wrote};
 ghost use Rattle.commands.specs.Output.{room, Puts, saidText, morePersons, persons, tailText, unitsText, outputLine, lastOutput};
 
 // The private functions below write from a place on and give the place after. Each requires the room that its text can take, and

@@ -3,8 +3,8 @@ use lib.Seq.{length-take-le}
 use mir.Syntax.{w8}
 use borrow.Kind.Array.{good-length, eInt}
 use Rattle.commands.specs.Output.{saidText, tailText, persons}
-use Rattle.commands.specs.Bytes.{bytes}
-use Rattle.commands.specs.Show.{shown}
+use Rattle.lines.specs.Bytes.{bytes}
+use Rattle.lines.specs.Show.{shown}
 use Rattle.commands.proofs.Written.{wrote-then, wrote-is, wrote-field, take-min}
 use borrow.Author.Needs.{needs}
 use native.Mathlib.Omega.{arith}

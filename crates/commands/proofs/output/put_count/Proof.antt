@@ -1,4 +1,4 @@
-use Rattle.commands.proofs.Decimal.{shown-64}
+use Rattle.lines.proofs.Decimal.{shown-64}
 use Rattle.commands.proofs.Written.{wrote-then}
 use borrow.Author.Needs.{needs}
 use native.Mathlib.Omega.{arith}

@@ -1,7 +1,7 @@
 use lib.Seq.{take-all}
 use Rattle.commands.proofs.Written.{wrote-then, wrote-none, wrote-is, more-next}
 use Rattle.commands.specs.Output.{morePersons}
-use Rattle.commands.specs.Show.{Wrote}
+use Rattle.lines.specs.Show.{Wrote}
 use borrow.Author.Needs.{needs}
 use native.Mathlib.Omega.{arith}
 use mathlib.Core.Path.{_≡_, refl, sym, ap, _∙_}

@@ -1,4 +1,4 @@
-use Rattle.commands.proofs.Decimal.{shown-8}
+use Rattle.lines.proofs.Decimal.{shown-8}
 use borrow.Author.Needs.{needs}
 use native.Mathlib.Omega.{arith}
 use Rattle.commands.proofs.output.put_person.Statement.{statement}

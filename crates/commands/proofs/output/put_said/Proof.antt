@@ -1,5 +1,5 @@
 use Rattle.commands.specs.Output.{saidText}
-use Rattle.commands.proofs.Decimal.{shown-32}
+use Rattle.lines.proofs.Decimal.{shown-32}
 use borrow.Author.Needs.{needs}
 use native.Mathlib.Omega.{arith}
 use Rattle.commands.proofs.output.put_said.Statement.{statement}

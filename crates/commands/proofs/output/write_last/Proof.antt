@@ -1,6 +1,6 @@
 use Rattle.commands.specs.Output.{lastOutput, newline}
-use Rattle.commands.specs.Bytes.{bytes}
-use Rattle.commands.specs.Show.{shown}
+use Rattle.lines.specs.Bytes.{bytes}
+use Rattle.lines.specs.Show.{shown}
 use Rattle.commands.proofs.Written.{wrote-field}
 use borrow.Author.Needs.{needs}
 use native.Mathlib.Omega.{arith}

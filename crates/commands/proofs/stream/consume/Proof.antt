@@ -1,0 +1,153 @@
+use borrow.Author.Tests.{not-true, not-false}
+use Rattle.commands.specs.Session.{unitsIn, session}
+use Rattle.commands.proofs.Session.{Going, going-start, going-next, going-full, going-last, going-end, Kept, kept-start}
+use borrow.Author.Needs.{needs}
+use native.Mathlib.Omega.{arith}
+use mathlib.Core.Path.{sym, _∙_}
+use Prim.Native.Nat.{_-_}
+use lib.ListN.{length}
+use Rattle.commands.proofs.stream.consume.Statement.{statement}
+use Rattle.commands.proofs.stream.consume.Tie as tie
+
+abbrev Inv-loop : tie.InvT-loop
+Inv-loop list₀ row₀ image₀ table₀ buf₀ out₀ chunk next₀ at₀ i₀ list row image table buf out next at i =
+    Kept list₀ row₀ image₀ table₀ buf₀ out₀ list row image table buf out
+    × Going (session (next₀ .lines) (unitsIn list₀ row₀ image₀ table₀) buf₀ (next₀ .held)) (session (next .lines) (unitsIn list row image table) buf (next .held)) chunk out₀ out i at
+
+abbrev μ-loop : tie.MeasureT-loop
+μ-loop list₀ row₀ image₀ table₀ buf₀ out₀ chunk next₀ at₀ i₀ list row image table buf out next at i = length chunk - i
+
+loop-holds : tie.Need-loop-holds Inv-loop μ-loop
+loop-holds c = (kept-start _ _ _ _ _ _, going-start _ _ _)
+
+has-room-requires : tie.Need-has-room-requires Inv-loop μ-loop
+has-room-requires c κs = search needs
+
+same-length : tie.Need-same-length Inv-loop μ-loop
+same-length c = c .before .before .before .loop .inv .0 .list
+
+same-length-2 : tie.Need-same-length-2 Inv-loop μ-loop
+same-length-2 c = c .before .before .before .loop .inv .0 .row
+
+same-length-3 : tie.Need-same-length-3 Inv-loop μ-loop
+same-length-3 c = c .before .before .before .loop .inv .0 .image
+
+same-length-4 : tie.Need-same-length-4 Inv-loop μ-loop
+same-length-4 c = c .before .before .before .loop .inv .0 .table
+
+same-length-5 : tie.Need-same-length-5 Inv-loop μ-loop
+same-length-5 c = c .before .before .before .loop .inv .0 .buf
+
+same-length-6 : tie.Need-same-length-6 Inv-loop μ-loop
+same-length-6 c = c .before .before .before .loop .inv .0 .out
+
+returns : tie.Need-returns Inv-loop μ-loop
+returns c = going-full _ _ _ _ _ _ _ (c .before .before .before .loop .inv .1) (c .before .before .before .loop .inv .0 .out) (sym (c .before .has-room .ensures) ∙ not-true _ (c .if1 .taken))
+
+same-length-7 : tie.Need-same-length-7 Inv-loop μ-loop
+same-length-7 c = c .before .before .before .before .before .loop .inv .0 .list
+
+same-length-8 : tie.Need-same-length-8 Inv-loop μ-loop
+same-length-8 c = c .before .before .before .before .before .loop .inv .0 .row
+
+same-length-9 : tie.Need-same-length-9 Inv-loop μ-loop
+same-length-9 c = c .before .before .before .before .before .loop .inv .0 .image
+
+same-length-10 : tie.Need-same-length-10 Inv-loop μ-loop
+same-length-10 c = c .before .before .before .before .before .loop .inv .0 .table
+
+same-length-11 : tie.Need-same-length-11 Inv-loop μ-loop
+same-length-11 c = c .before .before .before .before .before .loop .inv .0 .buf
+
+same-length-12 : tie.Need-same-length-12 Inv-loop μ-loop
+same-length-12 c = c .before .before .before .before .before .loop .inv .0 .out
+
+returns-2 : tie.Need-returns-2 Inv-loop μ-loop
+returns-2 c = going-last _ _ _ _ _ _ _ (c .before .before .before .before .before .loop .inv .1) (c .before .before .before .before .before .loop .inv .0 .out) (c .if2 .taken)
+
+sub-take-piece : tie.Need-sub-take-piece Inv-loop μ-loop
+sub-take-piece c = search needs
+
+part-take-piece-start : tie.Need-part-take-piece-start Inv-loop μ-loop
+part-take-piece-start c = search needs
+
+part-take-piece-end : tie.Need-part-take-piece-end Inv-loop μ-loop
+part-take-piece-end c = search needs
+
+take-piece-requires : tie.Need-take-piece-requires Inv-loop μ-loop
+take-piece-requires c κs = (sym (c .before .before .before .before .before .before .before .before .before .before .has-room .ensures) ∙ not-false _ (c .before .before .before .before .before .before .before .before .before .if1 .left), omega (arith, c .before .before .before .before .before .before .before .if2 .left))
+
+add-i : tie.Need-add-i Inv-loop μ-loop
+add-i c =
+    let g = going-next _ _ _ _ _ _ _ (c .before .before .before .before .before .before .before .before .before .before .before .before .before .before .before .before .before .before .before .before .before .before .before .before .before .before .loop .inv .1) (c .before .before .before .before .before .before .before .before .before .before .before .before .before .before .before .before .before .before .before .before .before .before .before .before .before .loop-test .taken) (sym (c .before .before .before .before .before .before .before .before .before .before .before .before .before .before .before .before .before .before .before .before .before .before .before .before .has-room .ensures) ∙ not-false _ (c .before .before .before .before .before .before .before .before .before .before .before .before .before .before .before .before .before .before .before .before .before .before .before .if1 .left)) _ _ _ _ (c .before .before .before .before .before .before .before .before .before .before .before .before .before .take-piece .kept .1 .1 .1 .1 .1 .0) (c .before .before .before .before .before .before .before .before .before .before .before .before .before .take-piece .ensures) in
+    omega (arith, g .1 .part, c .before .before .before .before .before .before .before .before .before .before .before .before .before .before .before .before .before .before .before .before .before .before .before .before .before .before .before .before .before .before .before .before .before .before .good .1 .1 .1 .1 .1 .1 .1 .0)
+
+loop-less : tie.Need-loop-less Inv-loop μ-loop
+loop-less c =
+    let g = going-next _ _ _ _ _ _ _ (c .before .before .before .before .before .before .before .before .before .before .before .before .before .before .before .before .before .before .before .before .before .before .before .before .before .before .before .loop .inv .1) (c .before .before .before .before .before .before .before .before .before .before .before .before .before .before .before .before .before .before .before .before .before .before .before .before .before .before .loop-test .taken) (sym (c .before .before .before .before .before .before .before .before .before .before .before .before .before .before .before .before .before .before .before .before .before .before .before .before .before .has-room .ensures) ∙ not-false _ (c .before .before .before .before .before .before .before .before .before .before .before .before .before .before .before .before .before .before .before .before .before .before .before .before .if1 .left)) _ _ _ _ (c .before .before .before .before .before .before .before .before .before .before .before .before .before .before .take-piece .kept .1 .1 .1 .1 .1 .0) (c .before .before .before .before .before .before .before .before .before .before .before .before .before .before .take-piece .ensures) in
+    omega (arith, g .0, g .1 .part, c .before .before .before .before .before .before .before .before .before .before .before .before .before .before .before .before .before .before .before .before .before .before .before .before .before .before .loop-test .taken)
+
+loop-again : tie.Need-loop-again Inv-loop μ-loop
+loop-again c =
+    let k = c .before .before .before .before .before .before .before .before .before .before .before .before .before .before .take-piece .kept in
+    let l = c .before .before .before .before .before .before .before .before .before .before .before .before .before .before .before .before .before .before .before .before .before .before .before .before .before .before .before .loop .inv .0 in
+    let g = going-next _ _ _ _ _ _ _ (c .before .before .before .before .before .before .before .before .before .before .before .before .before .before .before .before .before .before .before .before .before .before .before .before .before .before .before .loop .inv .1) (c .before .before .before .before .before .before .before .before .before .before .before .before .before .before .before .before .before .before .before .before .before .before .before .before .before .before .loop-test .taken) (sym (c .before .before .before .before .before .before .before .before .before .before .before .before .before .before .before .before .before .before .before .before .before .before .before .before .before .has-room .ensures) ∙ not-false _ (c .before .before .before .before .before .before .before .before .before .before .before .before .before .before .before .before .before .before .before .before .before .before .before .before .if1 .left)) _ _ _ _ (c .before .before .before .before .before .before .before .before .before .before .before .before .before .before .take-piece .kept .1 .1 .1 .1 .1 .0) (c .before .before .before .before .before .before .before .before .before .before .before .before .before .before .take-piece .ensures) in
+    (record { list = k .0 ∙ l .list; row = k .1 .0 ∙ l .row; image = k .1 .1 .0 ∙ l .image; table = k .1 .1 .1 .0 ∙ l .table; buf = k .1 .1 .1 .1 .0 ∙ l .buf; out = k .1 .1 .1 .1 .1 .0 ∙ l .out }, g .1)
+
+same-length-13 : tie.Need-same-length-13 Inv-loop μ-loop
+same-length-13 c = c .before .loop .inv .0 .list
+
+same-length-14 : tie.Need-same-length-14 Inv-loop μ-loop
+same-length-14 c = c .before .loop .inv .0 .row
+
+same-length-15 : tie.Need-same-length-15 Inv-loop μ-loop
+same-length-15 c = c .before .loop .inv .0 .image
+
+same-length-16 : tie.Need-same-length-16 Inv-loop μ-loop
+same-length-16 c = c .before .loop .inv .0 .table
+
+same-length-17 : tie.Need-same-length-17 Inv-loop μ-loop
+same-length-17 c = c .before .loop .inv .0 .buf
+
+same-length-18 : tie.Need-same-length-18 Inv-loop μ-loop
+same-length-18 c = c .before .loop .inv .0 .out
+
+returns-3 : tie.Need-returns-3 Inv-loop μ-loop
+returns-3 c = going-end _ _ _ _ _ _ _ (c .before .loop .inv .1) (c .before .loop .inv .0 .out) (c .loop-test .left)
+
+pub consume-spec : {M : Type 1} → statement M
+consume-spec =
+    tie.close
+    (tie.spec
+    Inv-loop
+    μ-loop
+    loop-holds
+    has-room-requires
+    same-length
+    same-length-2
+    same-length-3
+    same-length-4
+    same-length-5
+    same-length-6
+    returns
+    same-length-7
+    same-length-8
+    same-length-9
+    same-length-10
+    same-length-11
+    same-length-12
+    returns-2
+    sub-take-piece
+    part-take-piece-start
+    part-take-piece-end
+    take-piece-requires
+    add-i
+    loop-less
+    loop-again
+    same-length-13
+    same-length-14
+    same-length-15
+    same-length-16
+    same-length-17
+    same-length-18
+    returns-3)

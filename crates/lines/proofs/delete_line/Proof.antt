@@ -1,0 +1,26 @@
+use Rattle.lines.specs.Line.{deleteLine}
+use borrow.Author.Needs.{needs}
+use mathlib.Core.Path.{sym, _∙_}
+use Rattle.lines.proofs.delete_line.Statement.{statement}
+use Rattle.lines.proofs.delete_line.Tie as tie
+
+item-fields-requires : tie.Need-item-fields-requires
+item-fields-requires c κs = search needs
+
+enum-known-by : tie.Need-enum-known-by
+enum-known-by c = search needs
+
+enum-told : tie.Need-enum-told
+enum-told c = search needs
+
+returns : tie.Need-returns
+unfolding deleteLine
+returns c = rw (sym (c .before .before .before .item-fields .ensures) ∙ c .before .by .given .1)
+
+returns-2 : tie.Need-returns-2
+unfolding deleteLine
+returns-2 c = rw (sym (c .before .before .item-fields .ensures) ∙ c .enum-told .given .1)
+
+pub delete-line-spec : {M : Type 1} → statement M
+delete-line-spec =
+    tie.close (tie.spec item-fields-requires enum-known-by enum-told returns returns-2)

@@ -1,0 +1,6 @@
+pub mod Bytes
+pub mod Line
+pub mod Show
+pub mod Grammar
+pub mod Collect
+pub mod Chunks
