@@ -15,6 +15,7 @@ use model::Within;
 use model::judge;
 use model::live;
 ghost use mathlib.Core.Path.{_≡_};
+ghost use mathlib.Core.Bool.{true};
 ghost use Prim.Native.Nat.{_<_};
 ghost use lib.ListN.{length};
 ghost use Rattle.model.specs.declared.Command.the-variants.{Create, Delete, Allow, Withdraw, Lend, Recall};
@@ -286,4 +287,12 @@ pub fn check(
             f.checked()
         }
     }
+}
+
+// Numbers 1 and 2 alone, for a caller that reads the images itself.
+pub fn inspect(image: &[u8], table: &[u32]) -> Answer
+    ensures { λ r. ⌜ (numberOf r ≡ chainGuarded (images (now (image .entry)) (now (table .entry))) true 0)
+        × (images (now (image .exit)) (now (table .exit)) ≡ images (now (image .entry)) (now (table .entry))) ⌝ }
+{
+    order(image, table, true)
 }

@@ -264,3 +264,10 @@ pub fn subjects(image: &[u8]) -> SubjectSet
     let persons = scan::subjects(image);
     SubjectSet { answer: a, persons }
 }
+
+// Numbers 1 and 2 alone, for a caller that reads the rows itself.
+pub fn inspect(image: &[u8]) -> Answer
+    ensures { λ r. ⌜ (numberOf r ≡ guarded rows (now (image .entry)) 0) × (now (image .exit) ≡ now (image .entry)) ⌝ }
+{
+    order(image)
+}
