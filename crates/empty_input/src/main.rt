@@ -1,0 +1,4 @@
+// Empty input.
+fn main() {
+    program::run();
+}

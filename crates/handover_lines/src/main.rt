@@ -1,0 +1,4 @@
+// The handover examples as command lines.
+fn main() {
+    program::run();
+}

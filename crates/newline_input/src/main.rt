@@ -1,0 +1,4 @@
+// Input that ends in a newline.
+fn main() {
+    program::run();
+}

@@ -1,0 +1,4 @@
+// Every number that a command line can be refused with.
+fn main() {
+    program::run();
+}

@@ -1,0 +1,4 @@
+// Answers command lines: document 01's listing is its test.
+fn main() {
+    program::run();
+}

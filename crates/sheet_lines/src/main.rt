@@ -1,0 +1,4 @@
+// The question of docs/SHEET.md.
+fn main() {
+    program::run();
+}
