@@ -1,0 +1,36 @@
+// Writes the version and the date of the layout.
+use version::Layout;
+use version::Version;
+
+const OUT: i32 = 1;
+
+fn text(t: &[u8]) {
+    io::write_all(OUT, t);
+}
+
+fn number(n: u32) {
+    io::print_decimal(OUT, n as u64);
+}
+
+// A dash, then a number in at least two digits.
+fn two_digits(n: u32) {
+    text(b"-");
+    if n < 10 {
+        text(b"0");
+    }
+    number(n);
+}
+
+fn main() {
+    text(b"version=");
+    number(Version::MAJOR);
+    text(b".");
+    number(Version::MINOR);
+    text(b".");
+    number(Version::PATCH);
+    text(b"\nlayout=");
+    number(Layout::YEAR);
+    two_digits(Layout::MONTH);
+    two_digits(Layout::DAY);
+    text(b"\n");
+}
