@@ -1,0 +1,23 @@
+use borrow.Author.Needs.{needs}
+use mathlib.Core.Path.{ap, _∙_}
+use Rattle.rights_c.specs.Exports.{flag}
+use Rattle.rights_c.proofs.lists_unit.rights_lists_check.Statement.{statement}
+use Rattle.rights_c.proofs.lists_unit.rights_lists_check.Tie as tie
+
+check-requires : tie.Need-check-requires
+check-requires c κs = search needs
+
+checked-yes-requires : tie.Need-checked-yes-requires
+checked-yes-requires c κs = search needs
+
+checked-number-requires : tie.Need-checked-number-requires
+checked-number-requires c κs = search needs
+
+returns : tie.Need-returns
+returns c =
+    let e = c .before .before .check .ensures in
+    (c .checked-number .ensures ∙ e .0, c .before .checked-yes .ensures ∙ ap flag (e .1), e .2)
+
+pub rights-lists-check-spec : {M : Type 1} → statement M
+rights-lists-check-spec =
+    tie.close (tie.spec check-requires checked-yes-requires checked-number-requires returns)

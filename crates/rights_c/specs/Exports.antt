@@ -1,0 +1,42 @@
+-- What the exported functions return and write: the units' own definitions, with yes as 1 and no as 0.
+use mathlib.Core.Path.{_≡_}
+use mathlib.Core.Bool.{Bool, true, cond}
+use mathlib.Core.List.{List}
+use Prim.Native.Nat.{ℕ}
+use Rattle.model.specs.Unit.{Layout, checkNumber, checkYes, checkLeft, freshNumber, freshOf, guarded}
+use Rattle.model.specs.Subjects.{subjectsNumber, subjectsAnswer}
+use Rattle.model.specs.Images.{Images}
+use Rattle.model.specs.ChainUnit.{chainCheckNumber, chainFound, chainBuffer, chainLeft, chainFreshNumber, chainFreshOf, chainGuarded}
+
+abbrev pub flag : Bool → ℕ
+flag b = cond b 1 0
+
+module _ (L : Layout) where
+  -- number n and image x of making a fresh unit
+  abbrev pub Freshens : List ℕ → ℕ → List ℕ → Type 0
+  Freshens s n x = (n ≡ freshNumber L s) × (x ≡ freshOf L s)
+
+  -- number n, yes y and image x of a check
+  abbrev pub Answers : List ℕ → ℕ → ℕ → ℕ → ℕ → ℕ → List ℕ → Type 0
+  Answers s p o r n y x = (n ≡ checkNumber L s p o r) × (y ≡ flag (checkYes L s p o r)) × (x ≡ checkLeft L s p o r)
+
+  -- number n, persons w and image x of the subjects
+  abbrev pub Subjects : List ℕ → ℕ → ℕ → List ℕ → Type 0
+  Subjects s n w x = (n ≡ subjectsNumber L s) × (w ≡ subjectsAnswer L s) × (x ≡ s)
+
+  -- number n and image x of judging an image
+  abbrev pub Inspects : List ℕ → ℕ → List ℕ → Type 0
+  Inspects s n x = (n ≡ guarded L s 0) × (x ≡ s)
+
+-- ---- the same of a chain unit
+abbrev pub ChainFreshens : Images → ℕ → Images → Type 0
+ChainFreshens s n x = (n ≡ chainFreshNumber s) × (x ≡ chainFreshOf s)
+
+-- number n, depth d, number of persons k, buffer b and images x of a check
+abbrev pub ChainAnswers : Images → List ℕ → ℕ → ℕ → ℕ → ℕ → ℕ → ℕ → List ℕ → Images → Type 0
+ChainAnswers s buffer p o r n d k b x =
+    (n ≡ chainCheckNumber s buffer p o r) × (d ≡ chainFound s buffer p o r .depth) × (k ≡ chainFound s buffer p o r .persons)
+    × (b ≡ chainBuffer s buffer p o r) × (x ≡ chainLeft s buffer p o r)
+
+abbrev pub ChainInspects : Images → ℕ → Images → Type 0
+ChainInspects s n x = (n ≡ chainGuarded s true 0) × (x ≡ s)
