@@ -102,7 +102,8 @@ fn read_all(
     }
 }
 
-// The whole program. A failed read or write ends it with no further line.
+// The whole program. A failed read or write ends it with no further line. Nothing is lent and nothing returned, and no contract can
+// say what is read or written: `parts-same` (commands) says what the calls below write for any input.
 pub fn run() {
     let mut list = [0u64; 513];
     let mut row = [0u8; 4104];
