@@ -1,0 +1,146 @@
+use crate::refusal::{answer, done};
+use crate::{lent, Depth, Item, Refusal, Right, LISTS_WORDS, ROWS_BYTES};
+
+/// A unit without depth that owns its image.
+macro_rules! own_flat {
+    ($(#[$doc:meta])* $name:ident, $unit:ident, $cell:ty, $length:ident) => {
+        $(#[$doc])*
+        #[derive(Clone, Debug, PartialEq, Eq)]
+        pub struct $name {
+            image: [$cell; $length],
+        }
+
+        impl $name {
+            /// A fresh unit: item 0 lives and may edit itself.
+            pub fn fresh() -> Self {
+                let mut image = [0; $length];
+                done(lent::$unit::fresh(&mut image));
+                Self { image }
+            }
+
+            /// The unit of a stored image, if the engine finds it in order.
+            pub fn from_image(image: &[$cell]) -> Result<Self, Refusal> {
+                answer(lent::$unit::in_order(image))?;
+                let mut own = [0; $length];
+                own.copy_from_slice(image);
+                Ok(Self { image: own })
+            }
+
+            /// The image, to be stored.
+            pub fn image(&self) -> &[$cell; $length] {
+                &self.image
+            }
+
+            /// `on` lives, and `by` may edit it.
+            pub fn create(&mut self, by: Item, on: Item) -> Result<(), Refusal> {
+                answer(lent::$unit::create(&mut self.image, by.0, on.0))
+            }
+
+            /// `on` lives no longer, and every grant that names it ends.
+            pub fn delete(&mut self, by: Item, on: Item) -> Result<(), Refusal> {
+                answer(lent::$unit::delete(&mut self.image, by.0, on.0))
+            }
+
+            /// Grants the right on the item to `to`; the depth is judged and dropped.
+            pub fn allow(
+                &mut self,
+                by: Item,
+                to: Item,
+                on: Item,
+                right: Right,
+                depth: Depth,
+            ) -> Result<(), Refusal> {
+                answer(lent::$unit::allow(&mut self.image, by.0, to.0, on.0, right.0, depth.0))
+            }
+
+            /// Ends the grant of the right on the item to `to`.
+            pub fn withdraw(
+                &mut self,
+                by: Item,
+                to: Item,
+                on: Item,
+                right: Right,
+            ) -> Result<(), Refusal> {
+                answer(lent::$unit::withdraw(&mut self.image, by.0, to.0, on.0, right.0))
+            }
+
+            /// Whether the right on the item is granted to `who`.
+            pub fn check(&self, who: Item, on: Item, right: Right) -> Result<bool, Refusal> {
+                let (number, yes) = lent::$unit::check(&self.image, who.0, on.0, right.0);
+                answer(number).map(|()| yes != 0)
+            }
+
+            /// The persons with at least one grant, bit i for item i.
+            pub fn subjects(&self) -> u64 {
+                let (number, persons) = lent::$unit::subjects(&self.image);
+                done(number);
+                persons
+            }
+
+            /// What the engine says of the image; always in order, since only the engine writes it.
+            pub fn in_order(&self) -> Result<(), Refusal> {
+                answer(lent::$unit::in_order(&self.image))
+            }
+        }
+
+        impl Default for $name {
+            fn default() -> Self {
+                Self::fresh()
+            }
+        }
+    };
+}
+
+own_flat!(
+    /// Access control lists: for each item and right, the persons granted.
+    ///
+    /// ```
+    /// use rights::{Depth, Item, Lists, Refusal, Right};
+    ///
+    /// let mut lists = Lists::fresh();
+    /// lists.create(Item(0), Item(3))?;
+    /// lists.create(Item(0), Item(9))?;
+    /// lists.allow(Item(0), Item(3), Item(9), Right(1), Depth(0))?;
+    /// assert!(lists.check(Item(3), Item(9), Right(1))?);
+    /// assert!(!lists.check(Item(0), Item(9), Right(1))?);
+    /// assert_eq!(lists.subjects(), 1 << 0 | 1 << 3);
+    ///
+    /// let stored = lists.image().to_vec();
+    /// assert_eq!(Lists::from_image(&stored)?, lists);
+    /// assert_eq!(Lists::from_image(&stored[1..]), Err(Refusal::WrongLength));
+    /// # Ok::<(), Refusal>(())
+    /// ```
+    Lists, lists, u64, LISTS_WORDS
+);
+
+own_flat!(
+    /// Capability rows: for each person and item, the rights granted.
+    ///
+    /// ```
+    /// use rights::{Depth, Item, Lists, Refusal, Right, Rows};
+    ///
+    /// let mut rows = Rows::fresh();
+    /// rows.create(Item(0), Item(3))?;
+    /// rows.allow(Item(0), Item(3), Item(3), Right(7), Depth(0))?;
+    /// assert_eq!(rows.image()[8 + 64 * 3 + 3], 1 << 7);
+    /// assert_eq!(Rows::from(&Lists::from(&rows)), rows);
+    /// # Ok::<(), Refusal>(())
+    /// ```
+    Rows, rows, u8, ROWS_BYTES
+);
+
+impl From<&Lists> for Rows {
+    fn from(lists: &Lists) -> Self {
+        let mut image = [0; ROWS_BYTES];
+        done(lent::convert::lists_to_rows(&lists.image, &mut image));
+        Self { image }
+    }
+}
+
+impl From<&Rows> for Lists {
+    fn from(rows: &Rows) -> Self {
+        let mut image = [0; LISTS_WORDS];
+        done(lent::convert::rows_to_lists(&rows.image, &mut image));
+        Self { image }
+    }
+}

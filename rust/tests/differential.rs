@@ -1,0 +1,254 @@
+//! Lists, rows and chain unit against the model, command by command.
+
+mod engine;
+mod generator;
+mod judge;
+mod model;
+
+use engine::{check_chains, give_chains, Flat};
+use generator::{seed, Bias, Generator, Trace, BIASES};
+use judge::{flat_answer, judge_chain};
+use model::{image_of, loans_image, Command, GrantLayout, Journal, Layout, ListLayout, RowLayout};
+use rights::lent;
+
+/// The images of the three units.
+#[derive(Clone, PartialEq, Eq)]
+struct Images {
+    lists: Vec<u64>,
+    rows: Vec<u8>,
+    grants: Vec<u8>,
+    loans: Vec<u32>,
+}
+
+impl Images {
+    /// Fresh units, made in buffers that held something else.
+    fn fresh() -> Self {
+        let mut images = Self {
+            lists: vec![u64::MAX; ListLayout::CELLS],
+            rows: vec![0xa5; RowLayout::CELLS],
+            grants: vec![0x5a; GrantLayout::CELLS],
+            loans: vec![7; 1025],
+        };
+        assert_eq!(ListLayout::fresh(&mut images.lists), 0);
+        assert_eq!(RowLayout::fresh(&mut images.rows), 0);
+        assert_eq!(lent::chains::fresh(&mut images.grants, &mut images.loans), 0);
+        images
+    }
+
+    fn of(journal: &Journal) -> Self {
+        Self {
+            lists: image_of::<ListLayout>(journal),
+            rows: image_of::<RowLayout>(journal),
+            grants: image_of::<GrantLayout>(journal),
+            loans: loans_image(journal),
+        }
+    }
+
+    /// Every element of every image.
+    fn compare(&self, expected: &Self) {
+        assert!(self.lists == expected.lists, "lists differ");
+        assert!(self.rows == expected.rows, "rows differ");
+        assert!(self.grants == expected.grants, "grants differ");
+        assert!(self.loans == expected.loans, "loans differ");
+    }
+}
+
+/// How often each thing came up.
+#[derive(Clone, Debug, Default)]
+struct Counts {
+    commands: u64,
+    checks: u64,
+    /// Commands by number.
+    numbers: [u64; 11],
+    /// Checks of the chain unit that said yes, by depth and by number of persons.
+    depths: [u64; 8],
+    persons: [u64; 9],
+}
+
+impl Counts {
+    fn add(&mut self, other: &Counts) {
+        self.commands += other.commands;
+        self.checks += other.checks;
+        sum(&mut self.numbers, &other.numbers);
+        sum(&mut self.depths, &other.depths);
+        sum(&mut self.persons, &other.persons);
+    }
+
+    /// Every number of a command, every depth and every length of a chain came up.
+    fn assert_broad(&self) {
+        let given = [0, 3, 4, 5, 6, 7, 8, 9, 10];
+        assert!(given.iter().all(|&n| self.numbers[n] > 0), "numbers {:?}", self.numbers);
+        assert!(self.depths.iter().all(|&n| n > 0), "depths {:?}", self.depths);
+        assert!(self.persons[1..].iter().all(|&n| n > 0), "persons {:?}", self.persons);
+    }
+}
+
+fn sum(into: &mut [u64], from: &[u64]) {
+    for (a, b) in into.iter_mut().zip(from) {
+        *a += b;
+    }
+}
+
+/// One list of commands, from fresh units on.
+struct Run {
+    generator: Generator,
+    journal: Journal,
+    images: Images,
+    expected: Images,
+    counts: Counts,
+}
+
+impl Run {
+    fn new(seed: u64, bias: Bias) -> Self {
+        let journal = Journal::fresh();
+        let expected = Images::of(&journal);
+        let images = Images::fresh();
+        images.compare(&expected);
+        let generator = Generator::new(seed, bias);
+        Self { generator, journal, images, expected, counts: Counts::default() }
+    }
+
+    fn command(&mut self, step: u32) {
+        let command = self.generator.command(&self.journal, step);
+        let number = self.journal.give(command);
+        if number == 0 {
+            self.expected = Images::of(&self.journal);
+        }
+        self.give(command, number);
+        self.images.compare(&self.expected);
+        self.counts.commands += 1;
+        self.counts.numbers[number as usize] += 1;
+    }
+
+    /// The same command to each unit that has it.
+    fn give(&mut self, command: Command, number: u32) {
+        let images = &mut self.images;
+        let flat = !matches!(command, Command::Lend { .. } | Command::Recall { .. });
+        let expected = Some(number).filter(|_| flat);
+        assert_eq!(ListLayout::give(&mut images.lists, command), expected, "lists, {command:?}");
+        assert_eq!(RowLayout::give(&mut images.rows, command), expected, "rows, {command:?}");
+        let chains = give_chains(&mut images.grants, &mut images.loans, command);
+        assert_eq!(chains, number, "chains, {command:?}");
+    }
+
+    /// Checks of a few questions; no check changes an image.
+    fn sample(&mut self) {
+        for _ in 0..3 {
+            let question = self.generator.question(&self.journal);
+            let (who, on, right) = question;
+            let known = who < 64 && on < 64 && right < 8;
+            let best = if known { self.journal.best(on, right)[who as usize] } else { None };
+            self.check(question, best);
+        }
+        self.images.compare(&self.expected);
+    }
+
+    /// The checks of every person on the item and right.
+    fn key(&mut self, on: u32, right: u32) {
+        let best = self.journal.best(on, right);
+        for who in 0..64 {
+            self.check((who, on, right), best[who as usize]);
+        }
+    }
+
+    /// The checks of every person, item and right.
+    fn everything(&mut self) {
+        for key in 0..64 * 8 {
+            self.key(key / 8, key % 8);
+        }
+        self.images.compare(&self.expected);
+    }
+
+    fn check(&mut self, question: (u32, u32, u32), best: Option<u32>) {
+        let flat = flat_answer(&self.journal, question);
+        assert_eq!(ListLayout::check(&self.images.lists, question), flat, "{question:?}");
+        assert_eq!(RowLayout::check(&self.images.rows, question), flat, "{question:?}");
+        let before = self.generator.random.next().to_le_bytes();
+        let mut chain = before;
+        let images = &self.images;
+        let checked = check_chains(&images.grants, &images.loans, question, &mut chain);
+        judge_chain(&self.journal, question, best, checked, before, chain);
+        self.counts.checks += 1;
+        if checked.persons > 0 {
+            self.counts.depths[checked.depth as usize] += 1;
+            self.counts.persons[checked.persons as usize] += 1;
+        }
+    }
+
+    /// Subjects, conversions and in-order of the images as they stand.
+    fn whole_images(&self) {
+        let images = &self.images;
+        whole_flat::<ListLayout>(&images.lists, &self.expected.rows, &self.journal);
+        whole_flat::<RowLayout>(&images.rows, &self.expected.lists, &self.journal);
+        assert_eq!(lent::chains::in_order(&images.grants, &images.loans), 0);
+        images.compare(&self.expected);
+    }
+
+    fn step(&mut self, step: u32) {
+        self.command(step);
+        self.sample();
+        if step % 16 == 15 {
+            self.whole_images();
+        }
+        if step % 128 == 127 {
+            let loan = self.generator.standing(&self.journal);
+            self.key(loan.item % 64, loan.right % 8);
+        }
+    }
+}
+
+fn whole_flat<U: Flat>(image: &[U::Cell], other: &[<U::Other as Layout>::Cell], journal: &Journal) {
+    assert_eq!(U::in_order(image), 0, "{}", U::NAME);
+    assert_eq!(U::subjects(image), (0, journal.subjects()), "subjects of {}", U::NAME);
+    let mut converted = other.to_vec();
+    converted.reverse();
+    assert_eq!(U::convert(image, &mut converted), 0, "{}", U::NAME);
+    assert!(converted == other, "{} converted", U::NAME);
+}
+
+/// One list of commands of the bias; at its end every check there is, if asked for.
+fn list(seed: u64, bias: Bias, everything: bool) -> Counts {
+    let mut run = Run::new(seed, bias);
+    let mut trace = Trace { seed, bias: bias.name, step: 0 };
+    for step in 0..bias.length {
+        trace.step = step;
+        run.step(step);
+    }
+    if everything {
+        run.everything();
+    }
+    run.counts
+}
+
+/// Lists of each bias until each has at least `commands` commands.
+fn lists_of_every_bias(commands: u64, everything_each: u64) -> Counts {
+    let mut total = Counts::default();
+    println!("differential, seed {}", seed());
+    for (number, bias) in (0..).zip(BIASES) {
+        let mut counts = Counts::default();
+        let mut round = 0;
+        while counts.commands < commands {
+            let list_seed = seed() + 1_000_000 * number + round;
+            counts.add(&list(list_seed, bias, round % everything_each == 0));
+            round += 1;
+        }
+        println!("{}: {round} lists, {counts:?}", bias.name);
+        total.add(&counts);
+    }
+    println!("total: {total:?}");
+    total
+}
+
+#[test]
+fn short() {
+    lists_of_every_bias(1_000, 4).assert_broad();
+}
+
+/// Ten million commands.
+#[test]
+#[ignore = "takes minutes"]
+fn long() {
+    let counts = lists_of_every_bias(1_250_000, 50);
+    counts.assert_broad();
+    assert!(counts.commands >= 10_000_000);
+}

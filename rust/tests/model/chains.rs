@@ -1,0 +1,70 @@
+//! Chains: what each ends with, by following every loan from every ending found.
+
+use super::journal::{Journal, Loan};
+
+/// A person and the allowance that some chain to that person ends with.
+#[derive(Clone, Copy, Debug, PartialEq, Eq, PartialOrd, Ord)]
+pub struct Ending {
+    pub person: u32,
+    pub allowance: u32,
+}
+
+impl Journal {
+    /// For each person, the greatest last allowance of any chain on the item and right.
+    pub fn best(&self, item: u32, right: u32) -> [Option<u32>; 64] {
+        let mut best = [None; 64];
+        for ending in self.endings(item, right) {
+            let person = &mut best[ending.person as usize];
+            *person = (*person).max(Some(ending.allowance));
+        }
+        best
+    }
+
+    /// Every ending of every chain on the item and right, each once.
+    pub fn endings(&self, item: u32, right: u32) -> Vec<Ending> {
+        let mut found = self.starts(item, right);
+        let mut seen = [[false; 8]; 64];
+        found.retain(|e| !std::mem::replace(mark(&mut seen, e), true));
+        let mut next = 0;
+        while next < found.len() {
+            let longer = self.longer(found[next], item, right);
+            found.extend(longer.filter(|e| !std::mem::replace(mark(&mut seen, e), true)));
+            next += 1;
+        }
+        found
+    }
+
+    /// The chains of one person: a0 = e0.
+    pub fn starts(&self, item: u32, right: u32) -> Vec<Ending> {
+        let on_key = self.grants.iter().filter(|g| g.item == item && g.right == right);
+        on_key.map(|g| Ending { person: g.person, allowance: g.depth }).collect()
+    }
+
+    /// One loan more: ai is the smaller of a(i-1) - 1 and ei, and a(i-1) must be at least 1.
+    pub fn longer(&self, last: Ending, item: u32, right: u32) -> impl Iterator<Item = Ending> + '_ {
+        let at = |borrower, depth| Loan { lender: last.person, item, right, borrower, depth };
+        let loans = self.loans.range(at(0, 0)..=at(63, 7));
+        loans.filter(move |_| last.allowance >= 1).map(move |l| Ending {
+            person: l.borrower,
+            allowance: (last.allowance - 1).min(l.depth),
+        })
+    }
+
+    /// The last allowance of the best chain through just these persons, if there is one.
+    pub fn through(&self, persons: &[u8], item: u32, right: u32) -> Option<u32> {
+        let (&first, rest) = persons.split_first()?;
+        let mut lender = u32::from(first);
+        let mut allowance = self.depths(lender, item, right).max()?;
+        for &person in rest {
+            let borrower = u32::from(person);
+            let depth = self.lent(lender, item, right, borrower).into_iter().max()?;
+            allowance = allowance.checked_sub(1)?.min(depth);
+            lender = borrower;
+        }
+        Some(allowance)
+    }
+}
+
+fn mark<'a>(seen: &'a mut [[bool; 8]; 64], ending: &Ending) -> &'a mut bool {
+    &mut seen[ending.person as usize][ending.allowance as usize]
+}

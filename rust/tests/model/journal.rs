@@ -1,0 +1,229 @@
+//! The journal: what lives, the grants, the loans, and the table of answers.
+
+use std::collections::BTreeSet;
+
+#[derive(Clone, Copy, Debug, PartialEq, Eq, PartialOrd, Ord)]
+pub struct Grant {
+    pub item: u32,
+    pub right: u32,
+    pub person: u32,
+    pub depth: u32,
+}
+
+#[derive(Clone, Copy, Debug, PartialEq, Eq, PartialOrd, Ord)]
+pub struct Loan {
+    pub lender: u32,
+    pub item: u32,
+    pub right: u32,
+    pub borrower: u32,
+    pub depth: u32,
+}
+
+#[derive(Clone, Copy, Debug, PartialEq, Eq)]
+pub enum Command {
+    Create { by: u32, on: u32 },
+    Delete { by: u32, on: u32 },
+    Allow { by: u32, to: u32, on: u32, right: u32, depth: u32 },
+    Withdraw { by: u32, to: u32, on: u32, right: u32 },
+    Lend { by: u32, to: u32, on: u32, right: u32, depth: u32 },
+    Recall { by: u32, to: u32, on: u32, right: u32, depth: u32 },
+}
+
+/// The items, rights and depths that a command names.
+struct Named {
+    items: Vec<u32>,
+    right: u32,
+    depth: u32,
+}
+
+impl Command {
+    fn named(self) -> Named {
+        match self {
+            Command::Create { by, on } | Command::Delete { by, on } => {
+                Named { items: vec![by, on], right: 0, depth: 0 }
+            }
+            Command::Withdraw { by, to, on, right } => {
+                Named { items: vec![by, to, on], right, depth: 0 }
+            }
+            Command::Allow { by, to, on, right, depth }
+            | Command::Lend { by, to, on, right, depth }
+            | Command::Recall { by, to, on, right, depth } => {
+                Named { items: vec![by, to, on], right, depth }
+            }
+        }
+    }
+
+    /// An item above 63, right above 7 or depth above 7.
+    fn out_of_range(self) -> bool {
+        let named = self.named();
+        named.items.iter().any(|&item| item > 63) || named.right > 7 || named.depth > 7
+    }
+
+    fn by(self) -> u32 {
+        self.named().items[0]
+    }
+}
+
+#[derive(Clone, Debug, PartialEq, Eq)]
+pub struct Journal {
+    pub live: BTreeSet<u32>,
+    pub grants: BTreeSet<Grant>,
+    pub loans: BTreeSet<Loan>,
+}
+
+impl Journal {
+    pub fn fresh() -> Self {
+        Self {
+            live: BTreeSet::from([0]),
+            grants: BTreeSet::from([Grant { item: 0, right: 0, person: 0, depth: 0 }]),
+            loans: BTreeSet::new(),
+        }
+    }
+
+    /// Takes a command: its number, and on 0 the change.
+    pub fn give(&mut self, command: Command) -> u32 {
+        let number = self.answer(command);
+        if number == 0 {
+            self.change(command);
+        }
+        number
+    }
+
+    /// The table of answers from 3 on: the lowest number that applies.
+    fn answer(&self, command: Command) -> u32 {
+        if command.out_of_range() {
+            return 3;
+        }
+        if !self.lives(command.by()) {
+            return 4;
+        }
+        match command {
+            Command::Create { on, .. } => self.answer_create(on),
+            Command::Delete { by, on } => self.answer_delete(by, on),
+            Command::Allow { by, to, on, .. } | Command::Withdraw { by, to, on, .. } => {
+                self.answer_edit(by, to, on)
+            }
+            Command::Lend { by, to, on, right, depth } => {
+                self.answer_lend(Loan { lender: by, item: on, right, borrower: to, depth })
+            }
+            Command::Recall { to, on, .. } => self.answer_named(to, on),
+        }
+    }
+
+    fn answer_create(&self, on: u32) -> u32 {
+        if self.lives(on) {
+            6
+        } else {
+            0
+        }
+    }
+
+    fn answer_delete(&self, by: u32, on: u32) -> u32 {
+        if !self.lives(on) {
+            5
+        } else if on == 0 {
+            7
+        } else if !self.edits(by, on) {
+            8
+        } else {
+            0
+        }
+    }
+
+    fn answer_named(&self, to: u32, on: u32) -> u32 {
+        if self.lives(to) && self.lives(on) {
+            0
+        } else {
+            5
+        }
+    }
+
+    fn answer_edit(&self, by: u32, to: u32, on: u32) -> u32 {
+        let number = self.answer_named(to, on);
+        if number == 0 && !self.edits(by, on) {
+            return 8;
+        }
+        number
+    }
+
+    fn answer_lend(&self, loan: Loan) -> u32 {
+        let number = self.answer_named(loan.borrower, loan.item);
+        if number != 0 {
+            number
+        } else if loan.right == 0 {
+            9
+        } else if self.loans.len() == 1024 && !self.loans.contains(&loan) {
+            10
+        } else {
+            0
+        }
+    }
+
+    fn change(&mut self, command: Command) {
+        match command {
+            Command::Create { by, on } => {
+                self.live.insert(on);
+                self.grants.insert(Grant { item: on, right: 0, person: by, depth: 0 });
+            }
+            Command::Delete { on, .. } => self.delete(on),
+            Command::Allow { to, on, right, depth, .. } => {
+                self.grants.insert(Grant { item: on, right, person: to, depth });
+            }
+            Command::Withdraw { to, on, right, .. } => {
+                self.grants.retain(|g| (g.person, g.item, g.right) != (to, on, right));
+            }
+            Command::Lend { by, to, on, right, depth } => {
+                self.loans.insert(Loan { lender: by, item: on, right, borrower: to, depth });
+            }
+            Command::Recall { by, to, on, right, depth } => {
+                self.loans.remove(&Loan { lender: by, item: on, right, borrower: to, depth });
+            }
+        }
+    }
+
+    /// The item leaves the live set, and every grant and loan that names it ends.
+    pub fn delete(&mut self, item: u32) {
+        self.live.remove(&item);
+        self.grants.retain(|g| g.person != item && g.item != item);
+        self.loans.retain(|l| l.lender != item && l.item != item && l.borrower != item);
+    }
+
+    pub fn lives(&self, item: u32) -> bool {
+        self.live.contains(&item)
+    }
+
+    /// An edit grant on an item is one of right 0 there, at any depth.
+    fn edits(&self, person: u32, item: u32) -> bool {
+        self.granted(person, item, 0)
+    }
+
+    /// Whether a grant stands at any depth: the check of lists and rows.
+    pub fn granted(&self, person: u32, item: u32, right: u32) -> bool {
+        self.depths(person, item, right).next().is_some()
+    }
+
+    /// The depths granted to a person, rising.
+    pub fn depths(&self, person: u32, item: u32, right: u32) -> impl Iterator<Item = u32> + '_ {
+        let at = |depth| Grant { item, right, person, depth };
+        self.grants.range(at(0)..=at(7)).map(|g| g.depth)
+    }
+
+    /// The depths of the loans of a lender to a borrower.
+    pub fn lent(&self, lender: u32, item: u32, right: u32, borrower: u32) -> Vec<u32> {
+        let at = |depth| Loan { lender, item, right, borrower, depth };
+        self.loans.range(at(0)..=at(7)).map(|l| l.depth).collect()
+    }
+
+    /// The persons with at least one grant, bit i for item i.
+    pub fn subjects(&self) -> u64 {
+        self.grants.iter().fold(0, |persons, g| persons | 1 << g.person)
+    }
+
+    /// No dead item is named, and item 0 lives.
+    pub fn names_live(&self) -> bool {
+        let lives = |item: u32| self.live.contains(&item);
+        lives(0)
+            && self.grants.iter().all(|g| lives(g.person) && lives(g.item))
+            && self.loans.iter().all(|l| lives(l.lender) && lives(l.item) && lives(l.borrower))
+    }
+}
