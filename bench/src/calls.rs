@@ -1,0 +1,191 @@
+//! Each public call, engine against plain Rust, on the same images.
+
+use crate::api::*;
+use crate::engine::ENGINE;
+use crate::measure::{compare, Times};
+use crate::plain::PLAIN;
+use crate::state::{home, is_chain, written, ChainState, Pair, KEY};
+use std::hint::black_box;
+
+type Step<T, S> = fn(&T, &mut S) -> u64;
+
+/// A step of some calls that leaves the images as it found them, or that can be repeated on what it leaves.
+/// Its result folds what the calls answered.
+struct Case<T, S> {
+    name: String,
+    calls: u32,
+    state: S,
+    step: Step<T, S>,
+}
+
+pub struct Line {
+    pub name: String,
+    pub times: Times,
+}
+
+/// The steps of the comparison that goes before the timing.
+const TRIED: u32 = 64;
+
+fn agree<T, S: Clone + PartialEq>(case: &Case<T, S>, engine: &T, plain: &T) {
+    let (mut one, mut other) = (case.state.clone(), case.state.clone());
+    for _ in 0..TRIED {
+        let answers = ((case.step)(engine, &mut one), (case.step)(plain, &mut other));
+        assert_eq!(answers.0, answers.1, "{}: the answers differ", case.name);
+        assert!(one == other, "{}: the images differ", case.name);
+    }
+}
+
+fn run<T, S: Clone + PartialEq>(mut case: Case<T, S>, engine: &T, plain: &T) -> Line {
+    agree(&case, engine, plain);
+    let (engine, plain) = (black_box(engine), black_box(plain));
+    let step = black_box(case.step);
+    let times = compare(&mut case.state, case.calls, |s| step(engine, s), |s| step(plain, s));
+    Line { name: case.name, times }
+}
+
+fn digest(said: Said) -> u64 {
+    said.value.wrapping_mul(16) + u64::from(said.number)
+}
+
+/// A grant that stands nowhere in the states: the root's, to item 6 on item 8.
+const GRANT: Grant = Grant { by: 0, to: 6, on: 8, right: 3, depth: 2 };
+
+fn flat_cases<C: Clone + From<u8>>(unit: &Flat<C>, cells: usize) -> Vec<Case<Flat<C>, Vec<C>>> {
+    let case = |name: &str, calls, step: Step<Flat<C>, Vec<C>>| Case {
+        name: name.to_string(),
+        calls,
+        state: home(unit, cells),
+        step,
+    };
+    vec![
+        case("fresh", 1, |u, s| u64::from((u.fresh)(s))),
+        case("create + delete", 2, |u, s| u64::from((u.create)(s, 0, 50) + 16 * (u.delete)(s, 0, 50))),
+        case("create, refused with 6", 1, |u, s| u64::from((u.create)(s, 0, 7))),
+        case("delete, refused with 8", 1, |u, s| u64::from((u.delete)(s, 6, 7))),
+        case("allow + withdraw", 2, |u, s| u64::from((u.allow)(s, GRANT) + 16 * (u.withdraw)(s, GRANT))),
+        case("allow, refused with 8", 1, |u, s| u64::from((u.allow)(s, Grant { by: 6, ..GRANT }))),
+        case("check", 1, |u, s| digest((u.check)(s, Question { who: 0, on: 7, right: 0 }))),
+        case("check, refused with 3", 1, |u, s| digest((u.check)(s, Question { who: 64, on: 7, right: 0 }))),
+        case("subjects", 1, |u, s| digest((u.subjects)(s))),
+        case("in order", 1, |u, s| u64::from((u.in_order)(s))),
+    ]
+}
+
+pub fn lists() -> Vec<Line> {
+    let cases = flat_cases(&PLAIN.lists, LISTS_WORDS).into_iter();
+    cases.map(|case| run(case, &ENGINE.lists, &PLAIN.lists)).collect()
+}
+
+pub fn rows() -> Vec<Line> {
+    let cases = flat_cases(&PLAIN.rows, ROWS_BYTES).into_iter();
+    cases.map(|case| run(case, &ENGINE.rows, &PLAIN.rows)).collect()
+}
+
+pub fn conversions() -> Vec<Line> {
+    let case = |name: &str, state, step: Step<Api, Pair>| Case { name: name.to_string(), calls: 1, state, step };
+    let to_rows = |u: &Api, s: &mut Pair| u64::from((u.lists_to_rows)(&s.lists, &mut s.rows));
+    let to_lists = |u: &Api, s: &mut Pair| u64::from((u.rows_to_lists)(&s.rows, &mut s.lists));
+    let cases = [
+        case("lists to rows, 240 grants", Pair::home(), to_rows),
+        case("lists to rows, every grant", Pair::full(), to_rows),
+        case("rows to lists, 240 grants", Pair::home(), to_lists),
+        case("rows to lists, every grant", Pair::full(), to_lists),
+    ];
+    cases.into_iter().map(|case| run(case, &ENGINE, &PLAIN)).collect()
+}
+
+type ChainCase = Case<Chains, ChainState>;
+
+fn chain_case(name: String, calls: u32, state: ChainState, step: Step<Chains, ChainState>) -> ChainCase {
+    Case { name, calls, state, step }
+}
+
+/// The commands that grants decide, beside that many loans.
+fn grant_cases(loans: u32) -> Vec<ChainCase> {
+    let case = |name, calls, step: Step<Chains, ChainState>| {
+        chain_case(format!("{name}, {} loans", written(loans)), calls, ChainState::without_63(loans), step)
+    };
+    vec![
+        case("create + delete", 2, |u, s| {
+            let created = (u.create)(&mut s.grants, &mut s.loans, 0, 63);
+            u64::from(created + 16 * (u.delete)(&mut s.grants, &mut s.loans, 0, 63))
+        }),
+        case("create, refused with 6", 1, |u, s| u64::from((u.create)(&mut s.grants, &mut s.loans, 0, 7))),
+        case("allow + withdraw", 2, |u, s| {
+            let allowed = (u.allow)(&mut s.grants, &mut s.loans, GRANT);
+            u64::from(allowed + 16 * (u.withdraw)(&mut s.grants, &mut s.loans, GRANT))
+        }),
+        case("allow, refused with 8", 1, |u, s| {
+            u64::from((u.allow)(&mut s.grants, &mut s.loans, Grant { by: 6, ..GRANT }))
+        }),
+        case("in order", 1, |u, s| u64::from((u.in_order)(&s.grants, &s.loans))),
+    ]
+}
+
+fn lend_recall(u: &Chains, s: &mut ChainState, loan: Grant) -> u64 {
+    let lent = (u.lend)(&mut s.grants, &mut s.loans, loan);
+    u64::from(lent + 16 * (u.recall)(&mut s.grants, &mut s.loans, loan))
+}
+
+/// The least and the greatest loan of any table here: lenders in the tables are 1 to 62.
+const LEAST: Grant = Grant { by: 0, to: 1, on: 1, right: 1, depth: 0 };
+const GREATEST: Grant = Grant { by: 63, to: 63, on: 63, right: 7, depth: 7 };
+
+fn loan_cases() -> Vec<ChainCase> {
+    let case = |name: &str, calls, loans, step: Step<Chains, ChainState>| {
+        chain_case(name.to_string(), calls, ChainState::spread(loans), step)
+    };
+    vec![
+        case("lend + recall, 0 loans", 2, 0, |u, s| lend_recall(u, s, LEAST)),
+        case("lend + recall at the front, 1,023 loans", 2, 1023, |u, s| lend_recall(u, s, LEAST)),
+        case("lend + recall at the end, 1,023 loans", 2, 1023, |u, s| lend_recall(u, s, GREATEST)),
+        case("lend, refused with 10, 1,024 loans", 1, 1024, |u, s| {
+            u64::from((u.lend)(&mut s.grants, &mut s.loans, LEAST))
+        }),
+        case("lend, refused with 9, 1,024 loans", 1, 1024, |u, s| {
+            u64::from((u.lend)(&mut s.grants, &mut s.loans, Grant { right: 0, ..LEAST }))
+        }),
+        case("recall of none, 1,024 loans", 1, 1024, |u, s| u64::from((u.recall)(&mut s.grants, &mut s.loans, LEAST))),
+    ]
+}
+
+/// A check of the key for the next of the 64 persons.
+fn check_step(u: &Chains, s: &mut ChainState) -> u64 {
+    let q = Question { who: s.who, on: KEY.0, right: KEY.1 };
+    let found = (u.check)(&s.grants, &s.loans, q, &mut s.chain);
+    s.who = (s.who + 1) % 64;
+    u64::from(found.number + 16 * found.depth + 256 * u32::from(found.persons != 0))
+}
+
+/// For every person: equal answers, and a chain that bears them out, from both.
+fn chains_hold(state: &ChainState) {
+    for who in 0..64 {
+        let q = Question { who, on: KEY.0, right: KEY.1 };
+        for unit in [&ENGINE.chains, &PLAIN.chains] {
+            let mut chain = [0; CHAIN_PERSONS];
+            let found = (unit.check)(&state.grants, &state.loans, q, &mut chain);
+            assert!(is_chain(&state.grants, &state.loans, q, &chain, found), "{q:?}: {found:?} {chain:?}");
+        }
+    }
+}
+
+fn check_cases() -> Vec<ChainCase> {
+    let one = [0, 64, 256, 1024].map(|n| (format!("check, {} loans of the key", written(n)), ChainState::one_key(n)));
+    let spread =
+        [64, 256, 1024].map(|n| (format!("check, {} loans spread over keys", written(n)), ChainState::spread(n)));
+    one.into_iter().chain(spread).map(|(name, state)| chain_case(name, 1, state, check_step)).collect()
+}
+
+pub fn chains() -> Vec<Line> {
+    let fresh = chain_case("fresh".to_string(), 1, ChainState::fresh(), |u, s| {
+        u64::from((u.fresh)(&mut s.grants, &mut s.loans))
+    });
+    let cases = [vec![fresh], grant_cases(0), grant_cases(1024), loan_cases()].into_iter().flatten();
+    cases.map(|case| run(case, &ENGINE.chains, &PLAIN.chains)).collect()
+}
+
+pub fn checks() -> Vec<Line> {
+    let cases = check_cases();
+    cases.iter().for_each(|case| chains_hold(&case.state));
+    cases.into_iter().map(|case| run(case, &ENGINE.chains, &PLAIN.chains)).collect()
+}

@@ -1,0 +1,121 @@
+//! The engine and the plain implementation through the same random calls, before anything is timed.
+
+use crate::api::*;
+use crate::engine::ENGINE;
+use crate::plain::PLAIN;
+use crate::state::{fresh_flat, is_chain, ChainState, Pair, Seeded};
+
+const CALLS: u32 = 20_000;
+
+/// Create, delete, allow, withdraw, recall and lend by number; those that build come more often than those that end.
+const DRAWN: [u32; 16] = [0, 0, 0, 1, 2, 2, 2, 2, 3, 4, 5, 5, 5, 5, 5, 5];
+
+/// Few items, so that commands meet; now and then a number beyond the limits.
+fn number(seeded: &mut Seeded, limit: u32) -> u32 {
+    match seeded.below(40) {
+        0 => limit + seeded.below(100),
+        _ => seeded.below(limit),
+    }
+}
+
+fn arguments(seeded: &mut Seeded) -> Grant {
+    let mut item = || [0, number(seeded, 64), seeded.below(8), seeded.below(8)][seeded.below(4) as usize];
+    let (by, to, on) = (item(), item(), item());
+    Grant { by, to, on, right: number(seeded, 8), depth: number(seeded, 8) }
+}
+
+/// One command to a unit of one image; lend and recall are passed over.
+fn flat_call<C>(unit: &Flat<C>, image: &mut [C], command: u32, g: Grant) -> u32 {
+    match command {
+        0 => (unit.create)(image, g.by, g.on),
+        1 => (unit.delete)(image, g.by, g.on),
+        2 => (unit.allow)(image, g),
+        3 => (unit.withdraw)(image, g),
+        _ => DONE,
+    }
+}
+
+fn chain_call(unit: &Chains, s: &mut ChainState, command: u32, g: Grant) -> u32 {
+    let (grants, loans) = (&mut s.grants[..], &mut s.loans[..]);
+    match command {
+        0 => (unit.create)(grants, loans, g.by, g.on),
+        1 => (unit.delete)(grants, loans, g.by, g.on),
+        2 => (unit.allow)(grants, loans, g),
+        3 => (unit.withdraw)(grants, loans, g),
+        4 => (unit.recall)(grants, loans, g),
+        _ => (unit.lend)(grants, loans, g),
+    }
+}
+
+#[derive(Clone, PartialEq)]
+struct Units {
+    flat: Pair,
+    chains: ChainState,
+}
+
+impl Units {
+    fn fresh(api: &Api) -> Units {
+        let lists = fresh_flat(&api.lists, LISTS_WORDS);
+        let mut chains = ChainState::fresh();
+        assert_eq!((api.chains.fresh)(&mut chains.grants, &mut chains.loans), DONE);
+        Units { flat: Pair { lists, rows: fresh_flat(&api.rows, ROWS_BYTES) }, chains }
+    }
+
+    fn command(&mut self, api: &Api, command: u32, g: Grant) -> [u32; 3] {
+        let list = flat_call(&api.lists, &mut self.flat.lists, command, g);
+        let row = flat_call(&api.rows, &mut self.flat.rows, command, g);
+        [list, row, chain_call(&api.chains, &mut self.chains, command, g)]
+    }
+
+    /// What the checks and subject sets say; the chain is held against the state.
+    fn asked(&mut self, api: &Api, q: Question) -> (Said, Said, u32, u32, Said, Said) {
+        let list = (api.lists.check)(&self.flat.lists, q);
+        let row = (api.rows.check)(&self.flat.rows, q);
+        let ChainState { grants, loans, chain, .. } = &mut self.chains;
+        chain.fill(0);
+        let found = (api.chains.check)(grants, loans, q, chain);
+        let held = found.number != DONE || is_chain(grants, loans, q, chain, found);
+        assert!(held, "{q:?}: {found:?} {chain:?}");
+        let subjects = ((api.lists.subjects)(&self.flat.lists), (api.rows.subjects)(&self.flat.rows));
+        (list, row, found.number, found.depth, subjects.0, subjects.1)
+    }
+
+    /// Each image made from the other must be the one that stands.
+    fn converts(&self, api: &Api) {
+        let mut made = Pair { lists: vec![0; LISTS_WORDS], rows: vec![0; ROWS_BYTES] };
+        assert_eq!((api.lists_to_rows)(&self.flat.lists, &mut made.rows), DONE);
+        assert_eq!((api.rows_to_lists)(&self.flat.rows, &mut made.lists), DONE);
+        assert!(made == self.flat, "a conversion is not the image that stands");
+    }
+}
+
+/// One bit of an image turned, as nobody's command would: both must judge the images the same.
+fn judge_torn(units: &Units, seeded: &mut Seeded) {
+    let mut torn = units.clone();
+    torn.flat.lists[seeded.below(LISTS_WORDS as u32) as usize] ^= 1 << seeded.below(64);
+    torn.flat.rows[seeded.below(ROWS_BYTES as u32) as usize] ^= 1 << seeded.below(8);
+    torn.chains.grants[seeded.below(GRANTS_BYTES as u32) as usize] ^= (seeded.below(2) << seeded.below(8)) as u8;
+    let near = (torn.chains.loans[0] + 3).min(LOANS_MAX);
+    torn.chains.loans[seeded.below(near) as usize] ^= 1 << seeded.below(32);
+    let judged = [&ENGINE, &PLAIN].map(|api| {
+        let chains = (api.chains.in_order)(&torn.chains.grants, &torn.chains.loans);
+        [(api.lists.in_order)(&torn.flat.lists), (api.rows.in_order)(&torn.flat.rows), chains]
+    });
+    assert_eq!(judged[0], judged[1], "the in-order tests differ");
+}
+
+pub fn run() {
+    let mut seeded = Seeded::new(31);
+    let (mut one, mut other) = (Units::fresh(&ENGINE), Units::fresh(&PLAIN));
+    assert!(one == other, "the fresh units differ");
+    for _ in 0..CALLS {
+        let (command, g) = (DRAWN[seeded.below(16) as usize], arguments(&mut seeded));
+        assert_eq!(one.command(&ENGINE, command, g), other.command(&PLAIN, command, g), "{command} {g:?}");
+        let q = Question { who: g.to, on: g.on, right: g.right };
+        assert_eq!(one.asked(&ENGINE, q), other.asked(&PLAIN, q), "{q:?}");
+        assert!(one == other, "the images differ after {command} {g:?}");
+        judge_torn(&one, &mut seeded);
+    }
+    one.converts(&ENGINE);
+    one.converts(&PLAIN);
+}

@@ -1,0 +1,44 @@
+//! Measures the engine and prints the tables of docs/PERFORMANCE.md.
+
+mod api;
+mod calls;
+mod engine;
+mod lockstep;
+mod measure;
+mod plain;
+mod program;
+mod scans;
+mod sizes;
+mod state;
+mod streams;
+
+use calls::Line;
+
+fn print_calls(title: &str, second: &str, lines: &[Line]) {
+    println!("\n### {title}\n\n| Call | engine, ns | {second}, ns | ratio |\n|---|---:|---:|---:|");
+    for Line { name, times } in lines {
+        println!("| {name} | {:.0} | {:.0} | {:.2} |", times.first, times.second, times.ratio);
+    }
+}
+
+/// The processor and the work beside the measurement, where the system tells them.
+fn print_machine() {
+    let processors = std::fs::read_to_string("/proc/cpuinfo").unwrap_or_default();
+    let model = processors.lines().find_map(|line| line.strip_prefix("model name")).unwrap_or(": not known");
+    let load = std::fs::read_to_string("/proc/loadavg").unwrap_or_default();
+    let load = load.split(' ').next().unwrap_or("");
+    println!("Processor{}; load before the start: {load}.", model.trim_start());
+}
+
+fn main() {
+    lockstep::run();
+    print_machine();
+    print_calls("Lists", "plain Rust", &calls::lists());
+    print_calls("Rows", "plain Rust", &calls::rows());
+    print_calls("Conversions", "plain Rust", &calls::conversions());
+    print_calls("Chain unit: commands", "plain Rust", &calls::chains());
+    print_calls("Chain unit: checks", "plain Rust", &calls::checks());
+    print_calls("In-order scans", "memory read", &scans::scans());
+    program::print();
+    sizes::print();
+}

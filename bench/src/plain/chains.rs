@@ -1,0 +1,121 @@
+//! The chain unit: grants with depths, loans, and the check that follows them.
+
+use super::search::Reach;
+use super::{cells_in_order, in_range, live_set, lives_in, loans, named, number, require, Answer, Unit};
+use crate::api::{self, *};
+
+struct Chains<'a> {
+    grants: &'a mut [u8],
+    loans: &'a mut [u32],
+}
+
+fn place(who: u32, on: u32, right: u32) -> usize {
+    (8 + 512 * on + 64 * right + who) as usize
+}
+
+impl Unit for Chains<'_> {
+    fn order(&self) -> Answer {
+        order(self.grants, self.loans)
+    }
+
+    fn lives(&self, item: u32) -> bool {
+        lives_in(live_set(self.grants), item)
+    }
+
+    fn holds(&self, who: u32, on: u32, right: u32) -> bool {
+        self.grants[place(who, on, right)] != 0
+    }
+
+    fn put_item(&mut self, on: u32) {
+        self.grants[on as usize / 8] |= 1 << (on % 8);
+    }
+
+    fn drop_item(&mut self, on: u32) {
+        self.grants[on as usize / 8] &= !(1 << (on % 8));
+        let own = place(0, on, 0);
+        self.grants[own..own + 512].fill(0);
+        self.grants[place(on, 0, 0)..].iter_mut().step_by(64).for_each(|byte| *byte = 0);
+        loans::remove_naming(self.loans, on);
+    }
+
+    fn put_grant(&mut self, to: u32, on: u32, right: u32, depth: u32) {
+        self.grants[place(to, on, right)] |= 1 << depth;
+    }
+
+    fn drop_grants(&mut self, to: u32, on: u32, right: u32) {
+        self.grants[place(to, on, right)] = 0;
+    }
+}
+
+fn order(grants: &[u8], table: &[u32]) -> Answer {
+    require(grants.len() == GRANTS_BYTES && table.len() == LOANS_WORDS, WRONG_LENGTH)?;
+    let live = live_set(grants);
+    require(cells_in_order::<8>(grants) && loans::in_order(table, live), NOT_IN_ORDER)
+}
+
+fn fresh(grants: &mut [u8], table: &mut [u32]) -> u32 {
+    if grants.len() != GRANTS_BYTES || table.len() != LOANS_WORDS {
+        return WRONG_LENGTH;
+    }
+    grants.fill(0);
+    table.fill(0);
+    grants[0] = 1;
+    grants[8] = 1;
+    DONE
+}
+
+fn try_lend(unit: &mut Chains, g: Grant) -> Answer {
+    named(unit, g, g.depth)?;
+    require(g.right != 0, EDIT_RIGHT)?;
+    let loan = loans::code(g.by, g.on, g.right, g.to, g.depth);
+    if let Err(place) = loans::find(unit.loans, loan) {
+        require(unit.loans[0] < LOANS_MAX, FULL)?;
+        loans::insert(unit.loans, place, loan);
+    }
+    Ok(())
+}
+
+fn try_recall(unit: &mut Chains, g: Grant) -> Answer {
+    named(unit, g, g.depth)?;
+    let loan = loans::code(g.by, g.on, g.right, g.to, g.depth);
+    if let Ok(place) = loans::find(unit.loans, loan) {
+        loans::remove(unit.loans, place);
+    }
+    Ok(())
+}
+
+fn judge_check(grants: &[u8], table: &[u32], q: Question, room: usize) -> Answer {
+    require(room == CHAIN_PERSONS, WRONG_LENGTH)?;
+    order(grants, table)?;
+    in_range(&[q.who, q.on], q.right, 0)
+}
+
+fn check(grants: &[u8], table: &[u32], q: Question, chain: &mut [u8]) -> Found {
+    if let Err(refusal) = judge_check(grants, table, q, chain.len()) {
+        return Found { number: refusal, depth: 0, persons: 0 };
+    }
+    let first = place(0, q.on, q.right);
+    let reach = Reach::new(&grants[first..first + 64], loans::in_use(table), q.on, q.right);
+    match reach.chain(q.who as usize) {
+        Some((depth, persons, count)) => {
+            chain.copy_from_slice(&persons);
+            Found { number: DONE, depth, persons: count as u32 }
+        }
+        None => {
+            chain.fill(NO_PERSON);
+            Found { number: DONE, depth: 0, persons: 0 }
+        }
+    }
+}
+
+pub const UNIT: api::Chains = api::Chains {
+    fresh,
+    create: |grants, loans, by, on| super::create(&mut Chains { grants, loans }, by, on),
+    delete: |grants, loans, by, on| super::delete(&mut Chains { grants, loans }, by, on),
+    allow: |grants, loans, g| super::allow(&mut Chains { grants, loans }, g),
+    withdraw: |grants, loans, g| super::withdraw(&mut Chains { grants, loans }, g),
+    lend: |grants, loans, g| number(try_lend(&mut Chains { grants, loans }, g)),
+    recall: |grants, loans, g| number(try_recall(&mut Chains { grants, loans }, g)),
+    check,
+    in_order: |grants, loans| number(order(grants, loans)),
+};
