@@ -1,27 +1,11 @@
 //! What is measured: the public functions of the engine, as a table of functions that two implementations fill.
 
-pub const ITEM_MAX: u32 = 63;
-pub const RIGHT_MAX: u32 = 7;
-pub const DEPTH_MAX: u32 = 7;
-pub const LOANS_MAX: u32 = 1024;
-pub const LISTS_WORDS: usize = 513;
-pub const ROWS_BYTES: usize = 4104;
-pub const GRANTS_BYTES: usize = 32776;
-pub const LOANS_WORDS: usize = 1025;
-pub const CHAIN_PERSONS: usize = 8;
-pub const NO_PERSON: u8 = 255;
+pub use rights::{
+    ALREADY_LIVE, BY_DEAD, CHAIN_PERSONS, DEPTH_MAX, DONE, EDIT_RIGHT, FULL, GRANTS_BYTES, ITEM_MAX, LISTS_WORDS, LOANS_MAX, LOANS_WORDS,
+    NAMED_DEAD, NOT_IN_ORDER, NO_EDIT, OUT_OF_RANGE, RIGHT_MAX, ROOT_ITEM, ROWS_BYTES, WRONG_LENGTH,
+};
 
-pub const DONE: u32 = 0;
-pub const WRONG_LENGTH: u32 = 1;
-pub const NOT_IN_ORDER: u32 = 2;
-pub const OUT_OF_RANGE: u32 = 3;
-pub const BY_DEAD: u32 = 4;
-pub const NAMED_DEAD: u32 = 5;
-pub const ALREADY_LIVE: u32 = 6;
-pub const ROOT_ITEM: u32 = 7;
-pub const NO_EDIT: u32 = 8;
-pub const EDIT_RIGHT: u32 = 9;
-pub const FULL: u32 = 10;
+pub const NO_PERSON: u8 = rights::NO_PERSON as u8;
 
 /// The arguments of allow, lend and recall; withdraw leaves the depth aside.
 #[derive(Clone, Copy, Debug)]

@@ -15,6 +15,7 @@ use model::judge;
 use model::word;
 ghost use mathlib.Core.Path.{_≡_};
 ghost use Prim.Native.Nat.{ℕ, _+_, _*_, _%_, _<_, _≤_};
+ghost use lib.Dec.{eqb};
 ghost use lib.ListN.{length, getD};
 ghost use Rattle.model.specs.declared.Command.the-variants.{Create, Delete, Allow, Withdraw};
 ghost use Rattle.model.specs.Sets.{allBelow};
@@ -82,34 +83,34 @@ fn union(words: &[u64]) -> u64
     all
 }
 
-// Whether the lists of item on name living items only. One test serves its eight lists.
-fn item_ok(image: &[u64], on: u32) -> bool
+// The persons on the lists of item on who should not be: the dead ones, and all where the item is dead.
+fn misplaced(image: &[u64], on: u32) -> u64
     requires { ⌜ (length (now image) ≡ 513) × (on < 64) ⌝ }
-    ensures { λ r. ⌜ r ≡ blockOk lists (now (image .entry)) 512 on ⌝ }
+    ensures { λ r. ⌜ eqb r 0 ≡ blockOk lists (now (image .entry)) 512 on ⌝ }
 {
     let live = image[0];
     let at = 1 + 8 * on as usize;
     let end = at + 8;
     let all = union(&image[at..end]);
     if word::has(live, on) {
-        return word::is_within(all, live);
+        return all & !live;
     }
-    all == 0
+    all
 }
 
-// Every item, with one early exit each.
+// Every item, with one test at the end.
 fn items_ok(image: &[u64]) -> bool
     requires { ⌜ length (now image) ≡ 513 ⌝ }
     ensures { λ r. ⌜ r ≡ allBelow 64 (blockOk lists (now (image .entry)) 512) ⌝ }
 {
+    let mut bad: u64 = 0;
     let mut on: u32 = 0;
     while on < 64 {
-        if !item_ok(image, on) {
-            return false;
-        }
+        let more = misplaced(image, on);
+        bad = bad | more;
         on += 1;
     }
-    true
+    bad == 0
 }
 
 // In order: the root item lives, and no list names a dead item.

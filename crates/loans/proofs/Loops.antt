@@ -1,22 +1,22 @@
 -- Laws of the loops over a part of the table.
 use mathlib.Core.Path.{_≡_, refl, sym, ap, _∙_}
-use mathlib.Core.Bool.{Bool, true, false, _&&_, cond}
-use mathlib.Core.List.{List, [], _∷_, _++_, append-nil}
-use Prim.Native.Nat.{ℕ, suc, _+_, _/_, _≤_, _<_, min, max}
+use mathlib.Core.Bool.{Bool, true, false, _&&_, _||_, cond, false≢true}
+use mathlib.Core.List.{List, [], _∷_, _++_, append-nil, append-assoc}
+use Prim.Native.Nat.{ℕ, suc, _+_, _/_, _≤_, _<_, _-_}
 use native.Mathlib.Omega.{arith}
 use native.Mathlib.Nat.{add-zero}
 use native.Mathlib.Numerals.{add-one}
-use lib.ListN.{length, getD, take, drop, set, length-set, drop-of-length-le}
+use lib.ListN.{length, getD, take, drop, set, length-set, drop-of-length-le, length-drop}
 use lib.Seq.{drop-cons, take-suc-set, take-set-le, drop-set-lt, append-snoc, take-all}
 use lib.Dec.{eqb, ltb}
 use lib.Bits.{bitOr}
-use borrow.Author.Tests.{ltb-true, ltb-false, eq-eqb, ne-eqb}
-use Rattle.model.specs.Sets.{any, keep}
+use borrow.Author.Tests.{ltb-true, ltb-false, eq-eqb, ne-eqb, eqb-false, le-ltb}
+use Rattle.model.specs.Sets.{any, all, keep}
 use Rattle.model.specs.Loans.{rising, insert}
-use Rattle.model.proofs.Sets.{by-cases}
+use Rattle.model.proofs.Sets.{by-cases, fst, snd}
 use Rattle.model.proofs.Scan.{or-zero}
 use Rattle.model.proofs.Indexed.{keep-next}
-use Rattle.model.proofs.Rising.{insert-swap}
+use borrow.Rule.Slice.PartMut.{putMid}
 use Rattle.loans.specs.Table.{unmasked}
 
 -- ---- the flags of a word
@@ -29,34 +29,70 @@ high-zero w =
 pub names-zero : (d : List ℕ) (p i q : ℕ) → eqb (bitOr (bitOr (getD d p 0) (getD d i 0)) (getD d q 0)) 0 ≡ unmasked d p && unmasked d i && unmasked d q
 names-zero d p i q = or-zero (bitOr (getD d p 0) (getD d i 0)) (getD d q 0) ∙ ap (λ b. b && unmasked d q) (or-zero (getD d p 0) (getD d i 0))
 
--- ---- a word put among rising ones: code among old is the i words written, then last among the rest
-pub record Sifted (old : List ℕ) (code : ℕ) (s : List ℕ) (last i : ℕ) : Type 0 where
+-- ---- a word put among rising ones, behind those below it
+keep-none : (x y : ℕ) (s : List ℕ) → x ≤ y → all (ltb y) s ≡ true → keep (λ w. ltb w x) s ≡ []
+unfolding all keep
+keep-none x y [] h k = refl
+keep-none x y (z ∷ s) h k =
+    let l : y < z = ltb-true y z (fst (ltb y z) (all (ltb y) s) k) in
+    rw (le-ltb z x (omega arith)) (keep-none x y s h (snd (ltb y z) (all (ltb y) s) k))
+
+insert-at : (x : ℕ) (s : List ℕ) (k : ℕ) → rising s ≡ true → any (eqb x) s ≡ false → k ≡ length (keep (λ w. ltb w x) s)
+    → insert x s ≡ take k s ++ (x ∷ drop k s)
+unfolding insert rising any keep
+insert-at x [] k h a e = rw e
+insert-at x (y ∷ ys) k h a e =
+    by-cases (ltb y x)
+    (λ t. rw (e, t) (ap (λ (l : List ℕ). y ∷ l) (insert-at x ys _ (snd (all (ltb y) ys) (rising ys) h) (no-or (eqb x y) (any (eqb x) ys) a .1) refl)))
+    (λ t. let n : y ≡ x → ⊥ = λ q. eqb-false x y (no-or (eqb x y) (any (eqb x) ys) a .0) (sym q) in
+    rw (e, t, ne-eqb y x n, keep-none x y ys (ltb-false y x t) (fst (all (ltb y) ys) (rising ys) h)))
+  where
+    no-or : (a b : Bool) → a || b ≡ false → (a ≡ false) × (b ≡ false)
+    no-or true b e = absurd (false≢true (sym e))
+    no-or false b e = (refl, e)
+
+-- the part from place k on, pushed and put back
+pub sifted : (s part : List ℕ) (x k last : ℕ) → rising s ≡ true → any (eqb x) s ≡ false → k ≡ length (keep (λ w. ltb w x) s) → k ≤ length s
+    → part ++ (last ∷ []) ≡ x ∷ take (length s - k) (drop k s) → putMid k (length s - k) s part ++ (last ∷ []) ≡ insert x s
+sifted s part x k last h a e l q =
+    let n : length (drop k s) ≡ length s - k = length-drop k s in
+    let d : take (length s - k) (drop k s) ≡ drop k s = take-all (length s - k) (drop k s) (omega arith) in
+    let z : drop (length s - k) (drop k s) ≡ [] = drop-of-length-le (drop k s) {i = length s - k} (omega arith) in
+    rw (z, append-nil part) (append-assoc (take k s) part (last ∷ []) ∙ ap (λ (r : List ℕ). take k s ++ r) (q ∙ ap (λ (r : List ℕ). x ∷ r) d) ∙ sym (insert-at x s k h a e))
+
+-- a turn of the loop that counts
+pub rank-more : (p : ℕ → Bool) (s : List ℕ) (n i d : ℕ) → i < length s → length (keep p s) ≡ n + length (keep p (drop i s)) → d ≡ cond (p (getD s i 0)) 1 0
+    → length (keep p s) ≡ n + d + length (keep p (drop (i + 1) s))
+rank-more p s n i d l e q = e ∙ rw (keep-next p s i 0 l, q) (go (p (getD s i 0)))
+  where
+    go : (b : Bool) → n + length (cond b (getD s i 0 ∷ keep p (drop (i + 1) s)) (keep p (drop (i + 1) s))) ≡ n + cond b 1 0 + length (keep p (drop (i + 1) s))
+    go true = omega arith
+    go false = omega arith
+
+pub rank-end : (p : ℕ → Bool) (s : List ℕ) (n i : ℕ) → length s ≤ i → length (keep p s) ≡ n + length (keep p (drop i s)) → n ≡ length (keep p s)
+unfolding keep
+rank-end p s n i l e = sym (e ∙ rw (drop-of-length-le s {i = i} l) (add-zero n))
+
+-- code and old are the i words written, the one held, and the rest
+pub record Pushed (old : List ℕ) (code : ℕ) (s : List ℕ) (hold i : ℕ) : Type 0 where
   pub within : i ≤ length old
   pub long : length s ≡ length old
-  pub rises : rising (drop i s) ≡ true
-  pub absent : any (eqb last) (drop i s) ≡ false
-  pub whole : insert code old ≡ take i s ++ insert last (drop i s)
+  pub whole : code ∷ old ≡ take i s ++ (hold ∷ drop i s)
 
-pub sift-more : (old : List ℕ) (code : ℕ) (s : List ℕ) (last i v u : ℕ) → Sifted old code s last i → i < length old
-    → v ≡ min (getD s i 0) last → u ≡ max (getD s i 0) last → Sifted old code (set s i v) u (i + 1)
-sift-more old code s last i v u k h ev eu =
+pub push-more : (old : List ℕ) (code : ℕ) (s : List ℕ) (hold i : ℕ) → Pushed old code s hold i → i < length old
+    → Pushed old code (set s i hold) (getD s i 0) (i + 1)
+push-more old code s hold i k h =
     let l : i < length s = omega (arith, k .long) in
-    let d = drop-cons s i 0 l in
-    let o = insert-swap last (getD s i 0) (drop (suc i) s) (rw d at (k .rises)) (rw d at (k .absent)) in
-    let q : drop (suc i) (set s i v) ≡ drop (suc i) s = drop-set-lt (suc i) s i v (omega arith) in
     record {
       within = omega arith;
-      long = length-set s i v ∙ k .long;
-      rises = rw (add-one i, q) (o .1);
-      absent = rw (add-one i, q, eu) (o .2);
+      long = length-set s i hold ∙ k .long;
       whole =
-          k .whole ∙ rw (add-one i, q, take-suc-set s i v l, d, o .0, ← ev, ← eu)
-          (sym (append-snoc (take i s) v (insert u (drop (suc i) s))));
+          k .whole ∙ rw (add-one i, drop-set-lt (suc i) s i hold (omega arith), take-suc-set s i hold l, drop-cons s i 0 l)
+          (sym (append-snoc (take i s) hold (getD s i 0 ∷ drop (suc i) s)));
     }
 
-pub sift-end : (old : List ℕ) (code : ℕ) (s : List ℕ) (last i : ℕ) → Sifted old code s last i → length old ≤ i → s ++ (last ∷ []) ≡ insert code old
-unfolding insert
-sift-end old code s last i k h =
+pub push-end : (old : List ℕ) (code : ℕ) (s : List ℕ) (hold i : ℕ) → Pushed old code s hold i → length old ≤ i → s ++ (hold ∷ []) ≡ code ∷ old
+push-end old code s hold i k h =
     sym (k .whole ∙ rw (drop-of-length-le s {i = i} (omega (arith, k .long)), take-all i s (omega (arith, k .long))))
 
 -- ---- the words that stay, moved down: those of old are the place words written, then those that stay of the rest

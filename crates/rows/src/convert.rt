@@ -1,51 +1,124 @@
-// Lists turned into rows, and rows into lists: each cell of the target is gathered bit by bit.
+// Lists turned into rows, and rows into lists: the live set first, then the grants, 64 places of the target at a time. Only places
+// with a grant are visited.
 use crate::Rows;
 use lists::Lists;
 use model::Answer;
 use model::byte;
+use model::bytes;
 use model::word;
 ghost use mathlib.Core.Path.{_≡_};
-ghost use Prim.Native.Nat.{_+_, _*_, _<_};
-ghost use lib.ListN.{length, getD};
+ghost use mathlib.Core.Bool.{true, cond};
+ghost use Prim.Native.Nat.{ℕ, _+_, _*_, _/_, _%_, _≤_, _<_};
+ghost use lib.Count.{trailingZeros};
+ghost use lib.ListN.{length, getD, replicate};
 ghost use Rattle.model.specs.Answers.{numberOf};
+ghost use Rattle.model.specs.Bits.{bit, withoutBit, ofBits};
 ghost use Rattle.model.specs.Cells.{at};
 ghost use Rattle.model.specs.Unit.{lists, rows};
 ghost use Rattle.model.specs.Convert.{convert, Converts};
+ghost use Rattle.model.proofs.Scan.{orBelow};
+ghost use Rattle.model.proofs.Pending.{lacking, ahead};
 
-// Bit b of byte k of the rows: a bit of the live set, or whether the person of that row is on the list of its item and right b.
-fn row_bit(source: &[u64], k: usize, b: u32) -> bool
-    requires { ⌜ (length (now source) ≡ 513) × (k < 4104) × (b < 8) ⌝ }
-    ensures { λ r. ⌜ r ≡ at 8 (convert lists rows (now (source .entry))) (k * 8 + b) ⌝ }
+// The place of the lowest bit, and the word without that bit.
+fn lowest(w: u64) -> u32
+    requires { ⌜ 0 < w ⌝ }
+    ensures { λ r. ⌜ (r ≡ trailingZeros 64 w) × (r < 64) × (bit w r ≡ true) ⌝ }
 {
-    if k < 8 {
-        return word::has(source[0], 8 * k as u32 + b);
-    }
-    let m = k - 8;
-    word::has(source[1 + 8 * (m % 64) + b as usize], (m / 64) as u32)
+    u64::trailing_zeros(w)
 }
 
-fn row_byte(source: &[u64], k: usize) -> u8
-    requires { ⌜ (length (now source) ≡ 513) × (k < 4104) ⌝ }
+fn without_lowest(w: u64) -> u64
+    requires { ⌜ 0 < w ⌝ }
+    ensures { λ r. ⌜ (r ≡ withoutBit w (trailingZeros 64 w)) × (r < w) ⌝ }
+{
+    w & (w - 1)
+}
+
+fn digit(set: bool) -> u8
+    ensures { λ r. ⌜ (r ≡ cond set 1 0) × (r ≤ 1) ⌝ }
+{
+    if set { 1 } else { 0 }
+}
+
+// Byte k of the live set.
+fn live_byte(source: &[u64], k: usize) -> u8
+    requires { ⌜ (length (now source) ≡ 513) × (k < 8) ⌝ }
     ensures { λ r. ⌜ r ≡ getD (convert lists rows (now (source .entry))) k 0 ⌝ }
 {
     let mut bits: u8 = 0;
-    let mut b: u32 = 0;
+    let mut i: u32 = 0;
+    while i < 8 {
+        let set = word::has(source[0], 8 * k as u32 + i);
+        bits = byte::with_if(bits, i, set);
+        i += 1;
+    }
+    bits
+}
+
+// Rows of the live set alone, whatever the target held.
+fn start_rows(target: &mut [u8], source: &[u64])
+    requires { ⌜ (length (now source) ≡ 513) × (length (now target) ≡ 4104) ⌝ }
+    ensures { λ _. ⌜ now (target .exit) ≡ lacking 8 4104 (ahead (rows .item) 0) (convert lists rows (now (source .entry))) ⌝ }
+{
+    bytes::clear_each(target, 0, 1, 4104);
+    let mut k: usize = 0;
+    while k < 8 {
+        target[k] = live_byte(source, k);
+        k += 1;
+    }
+}
+
+// The rights of person p on an item: bit p of the item's eight lists, right 7 first.
+fn row_byte(source: &[u64], on: usize, p: u32) -> u8
+    requires { ⌜ (length (now source) ≡ 513) × (on < 64) × (p < 64) ⌝ }
+    ensures { λ r. ⌜ r ≡ getD (convert lists rows (now (source .entry))) (8 + 64 * p + on) 0 ⌝ }
+{
+    let mut bits: u8 = 0;
+    let mut b: usize = 0;
     while b < 8 {
-        let set = row_bit(source, k, b);
-        bits = byte::with_if(bits, b, set);
+        let set = word::has(source[8 + 8 * on - b], p);
+        bits = bits * 2 + digit(set);
         b += 1;
     }
     bits
+}
+
+// The persons with a right on an item.
+fn persons_on(source: &[u64], on: usize) -> u64
+    requires { ⌜ (length (now source) ≡ 513) × (on < 64) ⌝ }
+    ensures { λ r. ⌜ r ≡ orBelow 8 (λ (i : ℕ). getD (now (source .entry)) (1 + 8 * on + i) 0) ⌝ }
+{
+    let mut set: u64 = 0;
+    let mut i: usize = 0;
+    while i < 8 {
+        set = set | source[1 + 8 * on + i];
+        i += 1;
+    }
+    set
+}
+
+// The bytes of one item, in the row of each person with a right on it.
+fn put_column(target: &mut [u8], source: &[u64], on: usize)
+    requires { ⌜ (length (now source) ≡ 513) × (on < 64) × (now target ≡ lacking 8 4104 (ahead (rows .item) on) (convert lists rows (now source))) ⌝ }
+    ensures { λ _. ⌜ now (target .exit) ≡ lacking 8 4104 (ahead (rows .item) (on + 1)) (convert lists rows (now (source .entry))) ⌝ }
+{
+    let mut rest = persons_on(source, on);
+    while rest != 0 {
+        let p = lowest(rest);
+        target[8 + 64 * p as usize + on] = row_byte(source, on, p);
+        rest = without_lowest(rest);
+    }
 }
 
 fn fill_rows(target: &mut [u8], source: &[u64])
     requires { ⌜ (length (now source) ≡ 513) × (length (now target) ≡ 4104) ⌝ }
     ensures { λ _. ⌜ now (target .exit) ≡ convert lists rows (now (source .entry)) ⌝ }
 {
-    let mut k: usize = 0;
-    while k < 4104 {
-        target[k] = row_byte(source, k);
-        k += 1;
+    start_rows(target, source);
+    let mut on: usize = 0;
+    while on < 64 {
+        put_column(target, source, on);
+        on += 1;
     }
 }
 
@@ -64,41 +137,63 @@ pub fn to_rows(source: &[u64], target: &mut [u8]) -> Answer
     a
 }
 
-// Bit p of word k of the lists: a bit of the live set, or whether the row of person p has that item and right.
-fn list_bit(source: &[u8], k: usize, p: u32) -> bool
-    requires { ⌜ (length (now source) ≡ 4104) × (k < 513) × (p < 64) ⌝ }
-    ensures { λ r. ⌜ r ≡ at 64 (convert rows lists (now (source .entry))) (k * 64 + p) ⌝ }
-{
-    let who = p as usize;
-    if k == 0 {
-        return byte::has(source[who / 8], p);
-    }
-    let m = k - 1;
-    byte::has(source[8 + 64 * who + m / 8], (m % 8) as u32)
-}
-
-fn list_word(source: &[u8], k: usize) -> u64
-    requires { ⌜ (length (now source) ≡ 4104) × (k < 513) ⌝ }
-    ensures { λ r. ⌜ r ≡ getD (convert rows lists (now (source .entry))) k 0 ⌝ }
+// Eight bytes as a word, least first.
+fn eight(source: &[u8], first: usize) -> u64
+    requires { ⌜ first + 8 ≤ length (now source) ⌝ }
+    ensures { λ r. ⌜ r ≡ ofBits 64 (λ (i : ℕ). at 8 (now (source .entry)) (8 * first + i)) ⌝ }
 {
     let mut bits: u64 = 0;
-    let mut p: u32 = 0;
-    while p < 64 {
-        let set = list_bit(source, k, p);
-        bits = word::with_if(bits, p, set);
-        p += 1;
+    let mut n: usize = 0;
+    while n < 8 {
+        bits = bits * 256 + source[first + 7 - n] as u64;
+        n += 1;
     }
     bits
+}
+
+fn clear(target: &mut [u64])
+    ensures { λ _. ⌜ now (target .exit) ≡ replicate (length (now (target .entry))) 0 ⌝ }
+{
+    let mut i: usize = 0;
+    while i < target.len() {
+        target[i] = 0;
+        i += 1;
+    }
+}
+
+// Lists of the live set alone, whatever the target held.
+fn start_lists(target: &mut [u64], source: &[u8])
+    requires { ⌜ (length (now source) ≡ 4104) × (length (now target) ≡ 513) ⌝ }
+    ensures { λ _. ⌜ now (target .exit) ≡ lacking 64 513 (ahead (λ (k : ℕ). 8 * lists .person k + lists .item k / 8) 0) (convert rows lists (now (source .entry))) ⌝ }
+{
+    clear(target);
+    target[0] = eight(source, 0);
+}
+
+// The rights of eight items in a row: bit 8 * i + r of the eight bytes is right r on item i of the eight.
+fn put_eight(target: &mut [u64], source: &[u8], t: usize)
+    requires { ⌜ (length (now source) ≡ 4104) × (t < 512) × (now target ≡ lacking 64 513 (ahead (λ (k : ℕ). 8 * lists .person k + lists .item k / 8) t) (convert rows lists (now source))) ⌝ }
+    ensures { λ _. ⌜ now (target .exit) ≡ lacking 64 513 (ahead (λ (k : ℕ). 8 * lists .person k + lists .item k / 8) (t + 1)) (convert rows lists (now (source .entry))) ⌝ }
+{
+    let p = (t / 8) as u32;
+    let first = 1 + 64 * (t % 8);
+    let mut rest = eight(source, 8 + 8 * t);
+    while rest != 0 {
+        let k = first + lowest(rest) as usize;
+        target[k] = word::with(target[k], p);
+        rest = without_lowest(rest);
+    }
 }
 
 fn fill_lists(target: &mut [u64], source: &[u8])
     requires { ⌜ (length (now source) ≡ 4104) × (length (now target) ≡ 513) ⌝ }
     ensures { λ _. ⌜ now (target .exit) ≡ convert rows lists (now (source .entry)) ⌝ }
 {
-    let mut k: usize = 0;
-    while k < 513 {
-        target[k] = list_word(source, k);
-        k += 1;
+    start_lists(target, source);
+    let mut t: usize = 0;
+    while t < 512 {
+        put_eight(target, source, t);
+        t += 1;
     }
 }
 

@@ -4,8 +4,7 @@ use model::live;
 use model::word;
 ghost use mathlib.Core.Path.{_≡_};
 ghost use mathlib.Core.Bool.{not};
-ghost use Prim.Native.Nat.{ℕ, _<_};
-ghost use lib.Bits.{bitAnd, bitOr};
+ghost use Prim.Native.Nat.{_+_, _*_, _<_};
 ghost use lib.Dec.{eqb};
 ghost use lib.ListN.{length, getD};
 ghost use Rattle.model.specs.Sets.{allBelow};
@@ -13,46 +12,83 @@ ghost use Rattle.model.specs.Unit.{rows, inOrder};
 ghost use Rattle.model.specs.Subjects.{subjectsOf};
 ghost use Rattle.model.specs.Live.{masksOf};
 ghost use Rattle.model.proofs.Scan.{orBelow};
-ghost use Rattle.model.proofs.Order.{blockOk};
+ghost use Rattle.model.proofs.Order.{blockOk, itemsOk, personsOk};
 ghost use Rattle.model.proofs.Subjects.{isSubject};
 
-// What the masks show of a row, in one byte: `all` masks the whole row, masks[i] its byte i.
-fn shown(row: &[u8], all: u8, masks: &[u8; 64]) -> u8
-    requires { ⌜ length (now row) ≡ 64 ⌝ }
-    ensures { λ r. ⌜ r ≡ orBelow 64 (λ (i : ℕ). bitAnd (getD (now (row .entry)) i 0) (bitOr all (getD (now (masks .entry)) i 0))) ⌝ }
+// Whether the rows of the eight persons from 8 * k on have rights on living items only.
+fn items_live(image: &[u8], k: usize, masks: &[u8; 64]) -> bool
+    requires { ⌜ (length (now image) ≡ 4104) × (k < 8) × (now masks ≡ masksOf (now image)) ⌝ }
+    ensures { λ r. ⌜ r ≡ allBelow 8 (λ j. itemsOk rows (now (image .entry)) 512 (8 * k + j)) ⌝ }
+{
+    let at = 8 + 512 * k;
+    let end = at + 512;
+    live::hides(&image[at..end], 0, masks)
+}
+
+fn items_ok(image: &[u8], masks: &[u8; 64]) -> bool
+    requires { ⌜ (length (now image) ≡ 4104) × (now masks ≡ masksOf (now image)) ⌝ }
+    ensures { λ r. ⌜ r ≡ allBelow 64 (itemsOk rows (now (image .entry)) 512) ⌝ }
+{
+    let mut k: usize = 0;
+    while k < 8 {
+        if !items_live(image, k, masks) {
+            return false;
+        }
+        k += 1;
+    }
+    true
+}
+
+// Whether a row has a right.
+fn has_right(row: &[u8]) -> bool
+    ensures { λ r. ⌜ r ≡ not (eqb (orBelow (length (now (row .entry))) (λ i. getD (now (row .entry)) i 0)) 0) ⌝ }
 {
     let mut bits: u8 = 0;
     let mut i: usize = 0;
-    while i < 64 {
-        bits = bits | (row[i] & (all | masks[i]));
+    while i < row.len() {
+        bits = bits | row[i];
         i += 1;
     }
-    bits
+    bits != 0
 }
 
-// Whether the row of a person names living items only. Each right of a dead person's row is shown.
-fn row_ok(image: &[u8], who: usize, masks: &[u8; 64]) -> bool
+// Whether the person lives, or has no right.
+fn person_ok(image: &[u8], who: usize, masks: &[u8; 64]) -> bool
     requires { ⌜ (length (now image) ≡ 4104) × (who < 64) × (now masks ≡ masksOf (now image)) ⌝ }
-    ensures { λ r. ⌜ r ≡ blockOk rows (now (image .entry)) 512 who ⌝ }
+    ensures { λ r. ⌜ r ≡ personsOk rows (now (image .entry)) 512 who ⌝ }
 {
+    if masks[who] == 0 {
+        return true;
+    }
     let at = 8 + 64 * who;
     let end = at + 64;
-    shown(&image[at..end], masks[who], masks) == 0
+    !has_right(&image[at..end])
 }
 
-fn rows_ok(image: &[u8]) -> bool
-    requires { ⌜ length (now image) ≡ 4104 ⌝ }
-    ensures { λ r. ⌜ r ≡ allBelow 64 (blockOk rows (now (image .entry)) 512) ⌝ }
+fn persons_ok(image: &[u8], masks: &[u8; 64]) -> bool
+    requires { ⌜ (length (now image) ≡ 4104) × (now masks ≡ masksOf (now image)) ⌝ }
+    ensures { λ r. ⌜ r ≡ allBelow 64 (personsOk rows (now (image .entry)) 512) ⌝ }
 {
-    let masks = live::masks(image);
     let mut who: usize = 0;
     while who < 64 {
-        if !row_ok(image, who, &masks) {
+        if !person_ok(image, who, masks) {
             return false;
         }
         who += 1;
     }
     true
+}
+
+// Whether the rows name living items only, in two passes: items eight rows at a time, then the rows of dead persons.
+fn rows_ok(image: &[u8]) -> bool
+    requires { ⌜ length (now image) ≡ 4104 ⌝ }
+    ensures { λ r. ⌜ r ≡ allBelow 64 (blockOk rows (now (image .entry)) 512) ⌝ }
+{
+    let masks = live::masks(image);
+    if !items_ok(image, &masks) {
+        return false;
+    }
+    persons_ok(image, &masks)
 }
 
 pub(crate) fn in_order(image: &[u8]) -> bool
@@ -65,15 +101,14 @@ pub(crate) fn in_order(image: &[u8]) -> bool
     rows_ok(image)
 }
 
-// Whether the row of a person has a right.
+// Whether the person has a right.
 fn holds_any(image: &[u8], who: usize) -> bool
     requires { ⌜ (length (now image) ≡ 4104) × (who < 64) ⌝ }
     ensures { λ r. ⌜ r ≡ isSubject rows (now (image .entry)) who ⌝ }
 {
     let at = 8 + 64 * who;
     let end = at + 64;
-    let none = [0u8; 64];
-    shown(&image[at..end], 255, &none) != 0
+    has_right(&image[at..end])
 }
 
 // The persons with a right, bit p for person p.

@@ -34,21 +34,26 @@ pub round-more : (first ls : List ℕ) (k : ℕ) → roundAt first ls (k + 1) �
 unfolding roundAt
 round-more first ls k = rw add-one
 
--- one loan more, from p to b, raises b's entry to what it passes on, v
-module _ (ls round next : List ℕ) (i p b v : ℕ) (from : p ≡ lender (getD ls i 0)) (to : b ≡ borrower (getD ls i 0))
-    (got : v ≡ gain (getD round p 0) (getD ls i 0)) (long : length next ≡ 64)
+-- one loan more, w, whose lender is p, raises its borrower's entry to what it passes on
+module _ (ls round next : List ℕ) (i p : ℕ) (from : p ≡ lender (getD ls i 0)) (long : length next ≡ 64)
     (all : (q : ℕ) → q < 64 → getD next q 0 ≡ most (arriving ls round q) i) where
-  pub raise-more : (q : ℕ) → q < 64 → getD (set next b (max (getD next b 0) v)) q 0 ≡ most (arriving ls round q) (i + 1)
+  abbrev w : ℕ
+  w = getD ls i 0
+
+  pub raise-more : (q : ℕ) → q < 64
+      → getD (set next (borrower (getD ls i 0)) (max (getD next (borrower (getD ls i 0)) 0) (gain (getD round p 0) (getD ls i 0)))) q 0
+      ≡ most (arriving ls round q) (i + 1)
   raise-more q h =
-      let w : ℕ = getD ls i 0 in
+      let b : ℕ = borrower w in
+      let v : ℕ = gain (getD round p 0) w in
       let u : ℕ = getD round (lender w) 0 in
-      let g : v ≡ gain u w = got ∙ (λ j. gain (getD round (from j) 0) w) in
+      let g : v ≡ gain u w = λ j. gain (getD round (from j) 0) w in
       let m = most-more (arriving ls round q) i in
       let a = all q h in
       by-cases (ℕ-discrete b q)
       (λ e. (λ j. getD (set next (e j) (max (getD next (e j) 0) v)) q 0) ∙ getD-set-same next q _ 0 (omega arith)
-      ∙ (let r = arrive-here u w q (sym to ∙ e) in omega arith))
-      (λ e. getD-set-other next b q _ 0 (λ x. e (sym x)) ∙ (let r = arrive-else u w q (λ x. e (to ∙ x)) in omega arith))
+      ∙ (let r = arrive-here u w q e in omega arith))
+      (λ e. getD-set-other next b q _ 0 (λ x. e (sym x)) ∙ (let r = arrive-else u w q e in omega arith))
 
 -- one entry more: the greatest so far and its place, m and at, become n and to
 pub best-more : (f : ℕ → ℕ) (k m at n to : ℕ) → m ≡ most f k → at ≡ firstAt f k → n ≡ max m (f k) → to ≡ cond (ltb m (f k)) k at

@@ -1,33 +1,30 @@
 -- Laws of the loop that reads a chain off the rounds, and of the loop that finds a lender for it.
-use mathlib.Core.Path.{_≡_, refl, sym, _∙_}
+use mathlib.Core.Path.{_≡_, refl, sym, ap, _∙_}
 use mathlib.Core.Bool.{Bool, true, false, cond}
 use mathlib.Core.List.{List, [], _∷_, _++_, append-assoc}
-use Prim.Native.Nat.{ℕ, zero, suc, _+_, _-_, _<_}
+use Prim.Native.Nat.{ℕ, zero, suc, _-_, _≤_, _<_}
 use native.Mathlib.Omega.{arith}
 use native.Mathlib.Nat.{suc-sub-suc, sub-zero, zero-sub}
-use native.Mathlib.Numerals.{add-one}
 use lib.Dec.{eqb}
 use borrow.Author.Tests.{eq-eqb, ne-eqb}
 use lib.ListN.{length, getD, set, drop, replicate, length-set}
 use lib.Seq.{getD-set-same, drop-cons, drop-set-lt}
 use Rattle.model.specs.Loans.{lender}
-use Rattle.model.specs.Search.{arrive, arriving, column, lenderTo, traced}
+use Rattle.model.specs.Search.{arriving, column, lenderTo, traced}
 
-pub lender-more : (ls round : List ℕ) (q v i : ℕ)
-    → lenderTo ls round q v (i + 1) ≡ cond (eqb (arriving ls round q i) v) (lender (getD ls i 0)) (lenderTo ls round q v i)
-unfolding lenderTo
-lender-more ls round q v i = rw add-one
+-- the last of the first i loans, which passes x on to q
+module _ (ls round : List ℕ) (q v i x : ℕ) (h : 0 < i) (got : x ≡ arriving ls round q (i - 1)) where
+  last : (i : ℕ) → 0 < i
+      → lenderTo ls round q v i ≡ cond (eqb (arriving ls round q (i - 1)) v) (lender (getD ls (i - 1) 0)) (lenderTo ls round q v (i - 1))
+  unfolding lenderTo
+  last zero h = absurd (omega arith)
+  last (suc i) h = let e : suc i - 1 ≡ i = omega arith in rw e
 
--- the loan w, whose lender is p and which passes x on to q
-module _ (round : List ℕ) (w q v p x last : ℕ) (from : p ≡ lender w) (got : x ≡ arrive (getD round p 0) w q) where
-  passed : x ≡ arrive (getD round (lender w) 0) w q
-  passed = got ∙ (λ j. arrive (getD round (from j) 0) w q)
+  pub lender-here : x ≡ v → lenderTo ls round q v i ≡ lender (getD ls (i - 1) 0)
+  lender-here e = last i h ∙ rw (eq-eqb _ _ (sym got ∙ e))
 
-  pub lender-here : x ≡ v → p ≡ cond (eqb (arrive (getD round (lender w) 0) w q) v) (lender w) last
-  lender-here e = rw (eq-eqb _ _ (sym passed ∙ e)) from
-
-  pub lender-else : (x ≡ v → ⊥) → last ≡ cond (eqb (arrive (getD round (lender w) 0) w q) v) (lender w) last
-  lender-else ne = rw (ne-eqb _ _ (λ e. ne (passed ∙ e)))
+  pub lender-else : (x ≡ v → ⊥) → lenderTo ls round q v i ≡ lenderTo ls round q v (i - 1)
+  lender-else ne = last i h ∙ rw (ne-eqb _ _ (λ e. ne (got ∙ e)))
 
 pub lender-lt : (ls round : List ℕ) (q v n : ℕ) → lenderTo ls round q v n < 64
 unfolding lenderTo
@@ -59,6 +56,17 @@ pub traced-end : (rounds : List (List ℕ)) (ls l : List ℕ) (q : ℕ) → 0 < 
 unfolding traced
 traced-end rounds ls [] q h = absurd (omega arith)
 traced-end rounds ls (x ∷ l) q h = refl
+
+-- the chain depends on the rounds up to its own only
+pub traced-ext : (r s : List (List ℕ)) (ls : List ℕ) (k q : ℕ) → ((j : ℕ) → j ≤ k → getD r j [] ≡ getD s j []) → traced r ls k q ≡ traced s ls k q
+unfolding traced
+traced-ext r s ls zero q e = refl
+traced-ext r s ls (suc k) q e =
+    let p : ℕ = lenderTo ls (getD r k []) q (column r q (suc k)) (length ls) in
+    let below = e k (omega arith) in
+    let here = e (suc k) (omega arith) in
+    ap (λ (l : List ℕ). l ++ (q ∷ []))
+    (traced-ext r s ls k p (λ j h. e j (omega arith)) ∙ (λ j. traced s ls k (lenderTo ls (below j) q (getD (here j) q 0) (length ls))))
 
 drop-replicate : (j n : ℕ) (a : ℕ) → drop j (replicate n a) ≡ replicate (n - j) a
 drop-replicate zero n a = rw sub-zero refl

@@ -1,1 +1,3 @@
 pub mod InShape
+pub mod Picked
+pub mod Settled

@@ -7,13 +7,15 @@ use model::Right;
 ghost use mathlib.Core.Path.{_≡_};
 ghost use mathlib.Core.Bool.{cond};
 ghost use mathlib.Core.List.{_++_};
-ghost use Prim.Native.Nat.{_+_, _-_, _*_, _≤_, _<_, max};
+ghost use Prim.Native.Nat.{ℕ, _+_, _-_, _*_, _≤_, _<_, max};
 ghost use lib.Dec.{eqb, ltb};
 ghost use lib.ListN.{length, getD, set, take, replicate};
 ghost use Rattle.model.specs.Sets.{keep, tabulate, most, firstAt};
 ghost use Rattle.model.specs.Loans.{countOf, lender, borrower};
 ghost use Rattle.model.specs.Search.{keyOf, gain, arrive, grantRound, nextRound, roundAt, column, lenderTo, traced, foundOf, chainOf};
 ghost use Rattle.search.specs.InShape.{InShape};
+ghost use Rattle.search.specs.Picked.{Picked};
+ghost use Rattle.search.specs.Settled.{Settled};
 
 // The number of loans in use.
 fn count_of(loans: &[u32]) -> usize
@@ -45,101 +47,178 @@ fn borrower_of(w: u32) -> usize
 }
 
 // 1 for a loan of the key, else 0.
-fn counted(w: u32, key: u32) -> usize
+fn counted(w: u32, key: u32) -> u32
     ensures { λ r. ⌜ (r ≤ 1) × (r ≡ cond (eqb (keyOf w) key) 1 0) ⌝ }
 {
     if w / 512 % 512 == key { 1 } else { 0 }
 }
 
-// The loans of the key, in their order, to the front of `out`, and their number. Each loan is written, and the next one overwrites
-// it where it does not count.
-fn pick(out: &mut [u32], loans: &[u32], key: u32) -> usize
-    requires { ⌜ length (now loans) ≤ length (now out) ⌝ }
-    ensures { λ r. ⌜ (r ≤ length (now (loans .entry))) × (take r (now (out .exit)) ≡ keep (λ w. eqb (keyOf w) key) (now (loans .entry))) ⌝ }
+// 0 only where none of the 16 loans from place `at` on is of the key.
+fn seen(loans: &[u32], at: usize, key: u32) -> u32
+    requires { ⌜ at + 16 ≤ length (now loans) ⌝ }
+    ensures { λ r. ⌜ (r ≡ 0 → keep (λ w. eqb (keyOf w) key) (take (at + 16) (now (loans .entry))) ≡ keep (λ w. eqb (keyOf w) key) (take at (now (loans .entry)))) ⌝ }
 {
-    let mut m = 0;
-    let mut i = 0;
-    while i < loans.len() {
+    let mut hits = 0u32;
+    let mut j = 0;
+    while j < 16 {
+        hits |= counted(loans[at + j], key);
+        j += 1;
+    }
+    hits
+}
+
+// Picks among the loans from place `from` to place `to`, after the `m` picked before. Each loan is written, and the next one
+// overwrites it where it does not count.
+fn pick_part(out: &mut [u32], loans: &[u32], m: usize, from: usize, to: usize, key: u32) -> usize
+    requires { ⌜ (length (now loans) ≤ length (now out)) × (from ≤ to) × (to ≤ length (now loans)) × Picked (now loans) key from m (now out) ⌝ }
+    ensures { λ r. ⌜ Picked (now (loans .entry)) key to r (now (out .exit)) ⌝ }
+{
+    let mut m = m;
+    let mut i = from;
+    while i < to {
         let w = loans[i];
         out[m] = w;
-        m += counted(w, key);
+        m += counted(w, key) as usize;
         i += 1;
     }
     m
 }
 
+// The same for 16 loans. Most have another key, and a test of all at once passes them over.
+fn pick_block(out: &mut [u32], loans: &[u32], m: usize, at: usize, key: u32) -> usize
+    requires { ⌜ (length (now loans) ≤ length (now out)) × (at + 16 ≤ length (now loans)) × Picked (now loans) key at m (now out) ⌝ }
+    ensures { λ r. ⌜ Picked (now (loans .entry)) key (at + 16) r (now (out .exit)) ⌝ }
+{
+    if seen(loans, at, key) == 0 {
+        return m;
+    }
+    let to = at + 16;
+    pick_part(out, loans, m, at, to, key)
+}
+
+// The loans of the key, in their order, to the front of `out`, and their number.
+fn pick(out: &mut [u32], loans: &[u32], key: u32) -> usize
+    requires { ⌜ length (now loans) ≤ length (now out) ⌝ }
+    ensures { λ r. ⌜ (r ≤ length (now (loans .entry))) × (take r (now (out .exit)) ≡ keep (λ w. eqb (keyOf w) key) (now (loans .entry))) ⌝ }
+{
+    let end = loans.len();
+    let mut m = 0;
+    let mut i = 0;
+    while 16 <= end - i {
+        m = pick_block(out, loans, m, i, key);
+        i += 16;
+    }
+    pick_part(out, loans, m, i, end, key)
+}
+
 // Round 0: the greatest depth + 1 of each of the 64 grant bytes from `base` on, or 0.
-fn grant_round(grants: &[u8], base: usize) -> [u32; 64]
+fn grant_round(grants: &[u8], base: usize) -> [u8; 64]
     requires { ⌜ base + 64 ≤ length (now grants) ⌝ }
     ensures { λ r. ⌜ r ≡ grantRound (now (grants .entry)) base ⌝ }
 {
-    let mut round = [0u32; 64];
+    let mut round = [0u8; 64];
     let mut p = 0;
     while p < 64 {
-        round[p] = 8 - u8::leading_zeros(grants[base + p]);
+        round[p] = (8 - u8::leading_zeros(grants[base + p])) as u8;
         p += 1;
     }
     round
 }
 
-// What a loan passes on where its lender's entry is `v`: that less one, and no more than the loan's depth + 1.
-fn gain_of(v: u32, w: u32) -> u32
-    ensures { λ r. ⌜ r ≡ gain v w ⌝ }
+// The greater of two entries.
+fn larger(a: u8, b: u8) -> u8
+    ensures { λ r. ⌜ r ≡ max a b ⌝ }
 {
-    let limit = w % 8 + 1;
-    if limit < v {
-        return limit;
+    if a < b { b } else { a }
+}
+
+// The greatest entry of a round.
+fn greatest(round: &[u8; 64]) -> u8
+    ensures { λ r. ⌜ r ≡ most (λ (p : ℕ). getD (now (round .entry)) p 0) 64 ⌝ }
+{
+    let mut m = 0u8;
+    let mut p = 0;
+    while p < 64 {
+        m = larger(m, round[p]);
+        p += 1;
     }
+    m
+}
+
+// What a loan leaves of its lender's entry.
+fn left_of(v: u8) -> u8
+    ensures { λ r. ⌜ r ≡ v - 1 ⌝ }
+{
     if v == 0 { 0 } else { v - 1 }
 }
 
+// What a loan passes on where its lender's entry is `v`: that less one, and no more than the loan's depth + 1.
+fn gain_of(v: u8, w: u32) -> u8
+    ensures { λ r. ⌜ r ≡ gain v w ⌝ }
+{
+    let limit = (w % 8) as u8 + 1;
+    if limit < v {
+        return limit;
+    }
+    left_of(v)
+}
+
 // The same where the loan is to `q`, else 0.
-fn arrive_of(v: u32, w: u32, q: usize) -> u32
-    ensures { λ r. ⌜ r ≡ arrive v w q ⌝ }
+fn arrive_of(round: &[u8; 64], w: u32, q: usize) -> u8
+    ensures { λ r. ⌜ r ≡ arrive (getD (now (round .entry)) (lender w) 0) w q ⌝ }
 {
     if borrower_of(w) == q {
-        gain_of(v, w)
+        let p = lender_of(w);
+        gain_of(round[p], w)
     } else {
         0
     }
 }
 
-// `v` at `q`, where that is greater than what is there.
-fn raise(next: &mut [u32; 64], q: usize, v: u32)
-    requires { ⌜ q < 64 ⌝ }
-    ensures { λ _. ⌜ now (next .exit) ≡ set (now (next .entry)) q (max (getD (now (next .entry)) q 0) v) ⌝ }
+// Raises the borrower's entry to what the loan passes on where its lender's entry is `v`. An entry of 1 passes nothing on.
+fn raise(next: &mut [u8; 64], v: u8, w: u32)
+    ensures { λ _. ⌜ now (next .exit) ≡ set (now (next .entry)) (borrower w) (max (getD (now (next .entry)) (borrower w) 0) (gain v w)) ⌝ }
 {
-    if next[q] < v {
-        next[q] = v;
+    if v <= 1 {
+        return;
     }
+    let q = borrower_of(w);
+    let gained = gain_of(v, w);
+    next[q] = larger(next[q], gained);
 }
 
 // The round with one loan more.
-fn next_round(ls: &[u32], round: &[u32; 64]) -> [u32; 64]
+fn next_round(ls: &[u32], round: &[u8; 64]) -> [u8; 64]
     ensures { λ r. ⌜ r ≡ nextRound (now (ls .entry)) (now (round .entry)) ⌝ }
 {
-    let mut next = [0u32; 64];
+    let mut next = [0u8; 64];
     let mut i = 0;
     while i < ls.len() {
         let w = ls[i];
         let p = lender_of(w);
-        let q = borrower_of(w);
-        let v = gain_of(round[p], w);
-        raise(&mut next, q, v);
+        let v = round[p];
+        raise(&mut next, v, w);
         i += 1;
     }
     next
 }
 
-// Rounds 0 to 7.
-fn rounds_of(ls: &[u32], first: [u32; 64]) -> [[u32; 64]; 8]
-    ensures { λ r. ⌜ r ≡ tabulate 8 (roundAt first (now (ls .entry))) ⌝ }
+// Rounds 0, 1 and so on, until no later one can have a greater entry of `who`: a loan costs one, so all entries after a round are
+// below its greatest. In place of the later ones stands round 0.
+fn rounds_of(ls: &[u32], first: [u8; 64], who: usize) -> [[u8; 64]; 8]
+    requires { ⌜ who < 64 ⌝ }
+    ensures { λ r. ⌜ Settled (tabulate 8 (roundAt first (now (ls .entry)))) r who ⌝ }
 {
     let mut rounds = [first; 8];
+    let mut top = first[who];
     let mut k = 0;
     while k < 7 {
         let round = rounds[k];
+        if left_of(greatest(&round)) <= top {
+            return rounds;
+        }
         let next = next_round(ls, &round);
+        top = larger(top, next[who]);
         k += 1;
         rounds[k] = next;
     }
@@ -148,12 +227,12 @@ fn rounds_of(ls: &[u32], first: [u32; 64]) -> [[u32; 64]; 8]
 
 // A person's greatest entry, and the first round that has it.
 struct Entry {
-    value: u32,
+    value: u8,
     at: usize,
 }
 
 // `e`, or the entry `v` of round `k` where that is greater.
-fn better(e: Entry, v: u32, k: usize) -> Entry
+fn better(e: Entry, v: u8, k: usize) -> Entry
     ensures { λ r. ⌜ (r .value ≡ max (e .value) v) × (r .at ≡ cond (ltb (e .value) v) k (e .at)) ⌝ }
 {
     if e.value < v {
@@ -164,7 +243,7 @@ fn better(e: Entry, v: u32, k: usize) -> Entry
 }
 
 // That of `who`, over rounds 0 to 7.
-fn best_of(rounds: &[[u32; 64]; 8], who: usize) -> Entry
+fn best_of(rounds: &[[u8; 64]; 8], who: usize) -> Entry
     requires { ⌜ who < 64 ⌝ }
     ensures { λ r. ⌜ (r .value ≡ most (column (now (rounds .entry)) who) 8) × (r .at ≡ firstAt (column (now (rounds .entry)) who) 8) × (r .at < 8) ⌝ }
 {
@@ -177,29 +256,19 @@ fn best_of(rounds: &[[u32; 64]; 8], who: usize) -> Entry
     e
 }
 
-// The loan's lender where it passes `v` on to `q`, else `last`.
-fn lender_or(last: usize, round: &[u32; 64], w: u32, q: usize, v: u32) -> usize
-    ensures { λ r. ⌜ r ≡ cond (eqb (arrive (getD (now (round .entry)) (lender w) 0) w q) v) (lender w) last ⌝ }
-{
-    let p = lender_of(w);
-    if arrive_of(round[p], w, q) == v {
-        p
-    } else {
-        last
-    }
-}
-
 // The lender of the last loan that passes `v` on to `q`.
-fn lender_to(ls: &[u32], round: &[u32; 64], q: usize, v: u32) -> usize
+fn lender_to(ls: &[u32], round: &[u8; 64], q: usize, v: u8) -> usize
     ensures { λ r. ⌜ r ≡ lenderTo (now (ls .entry)) (now (round .entry)) q v (length (now (ls .entry))) ⌝ }
 {
-    let mut last = 0;
-    let mut i = 0;
-    while i < ls.len() {
-        last = lender_or(last, round, ls[i], q, v);
-        i += 1;
+    let mut i = ls.len();
+    while 0 < i {
+        i -= 1;
+        let w = ls[i];
+        if arrive_of(round, w, q) == v {
+            return lender_of(w);
+        }
     }
-    last
+    0
 }
 
 // 255 in each of the 8 bytes.
@@ -215,7 +284,7 @@ fn clear(chain: &mut [u8])
 }
 
 // The chain to `who` with `at` loans, read off the rounds from its end.
-fn write_chain(chain: &mut [u8], ls: &[u32], rounds: &[[u32; 64]; 8], who: usize, at: usize)
+fn write_chain(chain: &mut [u8], ls: &[u32], rounds: &[[u8; 64]; 8], who: usize, at: usize)
     requires { ⌜ (length (now chain) ≡ 8) × (who < 64) × (at < 8) ⌝ }
     ensures { λ _. ⌜ now (chain .exit) ≡ traced (now (rounds .entry)) (now (ls .entry)) at who ++ replicate (7 - at) 255 ⌝ }
 {
@@ -232,6 +301,47 @@ fn write_chain(chain: &mut [u8], ls: &[u32], rounds: &[[u32; 64]; 8], who: usize
     chain[0] = q as u8;
 }
 
+// The answer to a check, and its chain, with room in `out` for the loans in use.
+fn best_in(
+    out: &mut [u32],
+    chain: &mut [u8],
+    grants: &[u8],
+    loans: &[u32],
+    key: u32,
+    who: usize,
+) -> Found
+    requires { ⌜ (length (now loans) ≡ 1025) × (countOf (now loans) ≤ length (now out)) × (length (now out) ≤ 1024)
+        × (length (now grants) ≡ 32776) × (key ≤ 511) × (who ≤ 63) × (length (now chain) ≡ 8) ⌝ }
+    ensures { λ r. ⌜ (r ≡ foundOf (now (grants .entry)) (now (loans .entry)) key who)
+        × (now (chain .exit) ≡ chainOf (now (grants .entry)) (now (loans .entry)) key who) × (r .depth ≤ 7) ⌝ }
+{
+    let end = count_of(loans) + 1;
+    let m = pick(out, &loans[1..end], key);
+    let ls = &out[..m];
+    let base = 8 + 64 * key as usize;
+    let first = grant_round(grants, base);
+    let rounds = rounds_of(ls, first, who);
+    let e = best_of(&rounds, who);
+    let value = e.value;
+    let at = e.at;
+    if value == 0 {
+        clear(chain);
+        return Found {
+            yes: false,
+            depth: 0,
+            persons: 0,
+        };
+    }
+    write_chain(chain, ls, &rounds, who, at);
+    let depth = value as u32 - 1;
+    let persons = at as u32 + 1;
+    Found {
+        yes: true,
+        depth,
+        persons,
+    }
+}
+
 // The answer to a check, and its chain. A helper for the crate above, which has judged the images and read the arguments: so it
 // refuses nothing, and requires what they were judged for.
 pub fn best(
@@ -246,33 +356,12 @@ pub fn best(
     ensures { λ r. ⌜ (r ≡ foundOf (now (grants .entry)) (now (loans .entry)) (8 * on .0 + right .0) (who .0))
         × (now (chain .exit) ≡ chainOf (now (grants .entry)) (now (loans .entry)) (8 * on .0 + right .0) (who .0)) × (r .depth ≤ 7) ⌝ }
 {
-    let n = count_of(loans);
-    let end = n + 1;
     let key = key_of(on, right);
-    let mut out = [0u32; 1024];
-    let m = pick(&mut out, &loans[1..end], key);
-    let ls = &out[..m];
-    let base = 8 + 64 * key as usize;
-    let first = grant_round(grants, base);
-    let rounds = rounds_of(ls, first);
     let person = who.number() as usize;
-    let e = best_of(&rounds, person);
-    let value = e.value;
-    let at = e.at;
-    if value == 0 {
-        clear(chain);
-        return Found {
-            yes: false,
-            depth: 0,
-            persons: 0,
-        };
+    if count_of(loans) <= 64 {
+        let mut few = [0u32; 64];
+        return best_in(&mut few, chain, grants, loans, key, person);
     }
-    write_chain(chain, ls, &rounds, person, at);
-    let depth = value - 1;
-    let persons = at as u32 + 1;
-    Found {
-        yes: true,
-        depth,
-        persons,
-    }
+    let mut many = [0u32; 1024];
+    best_in(&mut many, chain, grants, loans, key, person)
 }

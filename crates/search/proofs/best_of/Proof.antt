@@ -24,9 +24,6 @@ loop-holds c = (search needs, refl, refl)
 mul-better : tie.Need-mul-better Inv-loop μ-loop
 mul-better c = search needs
 
-mul-better-2 : tie.Need-mul-better-2 Inv-loop μ-loop
-mul-better-2 c = search needs
-
 index-1-better : tie.Need-index-1-better Inv-loop μ-loop
 index-1-better c = search needs
 
@@ -67,7 +64,6 @@ best-of-spec =
     μ-loop
     loop-holds
     mul-better
-    mul-better-2
     index-1-better
     index-2-better
     better-requires

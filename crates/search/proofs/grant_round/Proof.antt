@@ -30,8 +30,8 @@ shared-slice-read-round c = search needs
 sub-round : tie.Need-sub-round Inv-loop μ-loop
 sub-round c = leading-le 8 _
 
-mul-round : tie.Need-mul-round Inv-loop μ-loop
-mul-round c = search needs
+cast-round : tie.Need-cast-round Inv-loop μ-loop
+cast-round c = search needs
 
 array-write-round : tie.Need-array-write-round Inv-loop μ-loop
 array-write-round c = search needs
@@ -64,7 +64,7 @@ grant-round-spec =
     add-round
     shared-slice-read-round
     sub-round
-    mul-round
+    cast-round
     array-write-round
     add-p
     loop-less

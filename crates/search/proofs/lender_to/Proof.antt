@@ -1,56 +1,62 @@
-use mathlib.Core.Bool.{cond}
-use lib.Dec.{eqb}
+use Rattle.model.specs.Search.{lenderTo}
+use Rattle.search.proofs.Trace.{lender-here, lender-else}
 use borrow.Author.Needs.{needs}
 use native.Mathlib.Omega.{arith}
 use mathlib.Core.Path.{_≡_, refl, sym, ap, _∙_}
-use Prim.Native.Nat.{ℕ, _-_, _≤_}
-use lib.ListN.{length, getD}
-use Rattle.model.specs.Loans.{lender}
-use Rattle.model.specs.Search.{arriving, lenderTo}
-use Rattle.search.proofs.Trace.{lender-more}
+use Prim.Native.Nat.{_≤_}
+use lib.ListN.{length}
 use Rattle.search.proofs.lender_to.Statement.{statement}
 use Rattle.search.proofs.lender_to.Tie as tie
 
--- the lender of the last of the first i loans that passes v on
+-- the lender wanted is among the first i loans
 abbrev Inv-loop : tie.InvT-loop
-Inv-loop ls round q v last₀ i₀ last i =
-    (i ≤ length ls) × (last ≡ lenderTo ls round q v i)
+Inv-loop ls round q v i₀ i = (i ≤ length ls) × (lenderTo ls round q v (length ls) ≡ lenderTo ls round q v i)
 
 abbrev μ-loop : tie.MeasureT-loop
-μ-loop ls round q v last₀ i₀ last i = length ls - i
+μ-loop ls round q v i₀ i = i
 
 loop-holds : tie.Need-loop-holds Inv-loop μ-loop
-unfolding lenderTo
 loop-holds c = (search needs, refl)
 
-mul-lender-or : tie.Need-mul-lender-or Inv-loop μ-loop
-mul-lender-or c = search needs
+sub-i : tie.Need-sub-i Inv-loop μ-loop
+sub-i c = search needs
 
-shared-slice-read-lender-or : tie.Need-shared-slice-read-lender-or Inv-loop μ-loop
-shared-slice-read-lender-or c = search needs
+mul-w : tie.Need-mul-w Inv-loop μ-loop
+mul-w c = search needs
 
-lender-or-requires : tie.Need-lender-or-requires Inv-loop μ-loop
-lender-or-requires c κs = search needs
+shared-slice-read-w : tie.Need-shared-slice-read-w Inv-loop μ-loop
+shared-slice-read-w c = search needs
 
-add-i : tie.Need-add-i Inv-loop μ-loop
-add-i c = search needs
+arrive-of-requires : tie.Need-arrive-of-requires Inv-loop μ-loop
+arrive-of-requires c κs = search needs
+
+lender-of-requires : tie.Need-lender-of-requires Inv-loop μ-loop
+lender-of-requires c κs = search needs
+
+returns : tie.Need-returns Inv-loop μ-loop
+returns c =
+    let a = c .before .before .before .before .before .before .before .args in
+    let l = c .before .before .before .before .before .loop in
+    let f = c .before .before .arrive-of in
+    c .lender-of .ensures ∙ sym (l .inv .1 ∙ lender-here (a .ls .now) (a .round .now) (a .q) (a .v) (l .i) (f .result) (omega arith) (f .ensures) (omega arith))
 
 loop-less : tie.Need-loop-less Inv-loop μ-loop
 loop-less c = search needs
 
 loop-again : tie.Need-loop-again Inv-loop μ-loop
 loop-again c =
-    let a = c .before .before .before .before .before .args in
-    let l = c .before .before .before .loop in
-    let w : ℕ = getD (a .ls .now) (l .i) 0 in
-    (search needs, c .lender-or .ensures ∙ ap (cond (eqb (arriving (a .ls .now) (a .round .now) (a .q) (l .i)) (a .v)) (lender w)) (l .inv .1) ∙ sym (lender-more (a .ls .now) (a .round .now) (a .q) (a .v) (l .i)))
+    let a = c .before .before .before .before .before .before .args in
+    let l = c .before .before .before .before .loop in
+    let f = c .before .arrive-of in
+    (search needs, l .inv .1 ∙ lender-else (a .ls .now) (a .round .now) (a .q) (a .v) (l .i) (f .result) (omega arith) (f .ensures) (λ e. omega arith))
 
-returns : tie.Need-returns Inv-loop μ-loop
-returns c =
+returns-2 : tie.Need-returns-2 Inv-loop μ-loop
+unfolding lenderTo
+returns-2 c =
     let a = c .before .before .before .args in
     let l = c .before .loop in
-    let e : l .i ≡ length (a .ls .now) = omega arith in
-    l .inv .1 ∙ ap (lenderTo (a .ls .now) (a .round .now) (a .q) (a .v)) e
+    let e : l .i ≡ 0 = omega arith in
+    sym (l .inv .1 ∙ ap (lenderTo (a .ls .now) (a .round .now) (a .q) (a .v)) e)
 
 pub lender-to-spec : {M : Type 1} → statement M
 lender-to-spec =
@@ -59,10 +65,12 @@ lender-to-spec =
     Inv-loop
     μ-loop
     loop-holds
-    mul-lender-or
-    shared-slice-read-lender-or
-    lender-or-requires
-    add-i
+    sub-i
+    mul-w
+    shared-slice-read-w
+    arrive-of-requires
+    lender-of-requires
+    returns
     loop-less
     loop-again
-    returns)
+    returns-2)

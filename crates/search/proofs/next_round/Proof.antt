@@ -1,12 +1,12 @@
 use lib.ListN.{getD-replicate, length, getD, length-set}
-use borrow.Author.Needs.{needs}
-use native.Mathlib.Omega.{arith}
-use mathlib.Core.Path.{_≡_, refl, ap, _∙_}
-use Prim.Native.Nat.{ℕ, _-_, _≤_, _<_}
 use Rattle.model.specs.Sets.{most}
 use Rattle.model.specs.Search.{arriving, nextRound}
 use Rattle.model.proofs.Indexed.{tabulate-ext}
 use Rattle.search.proofs.Rounds.{raise-more}
+use borrow.Author.Needs.{needs}
+use native.Mathlib.Omega.{arith}
+use mathlib.Core.Path.{_≡_, refl, ap, _∙_}
+use Prim.Native.Nat.{ℕ, _-_, _≤_, _<_}
 use Rattle.search.proofs.next_round.Statement.{statement}
 use Rattle.search.proofs.next_round.Tie as tie
 
@@ -31,17 +31,8 @@ shared-slice-read-w c = search needs
 lender-of-requires : tie.Need-lender-of-requires Inv-loop μ-loop
 lender-of-requires c κs = search needs
 
-borrower-of-requires : tie.Need-borrower-of-requires Inv-loop μ-loop
-borrower-of-requires c κs = search needs
-
-mul-gain-of : tie.Need-mul-gain-of Inv-loop μ-loop
-mul-gain-of c = search needs
-
-element-copy-out-gain-of : tie.Need-element-copy-out-gain-of Inv-loop μ-loop
-element-copy-out-gain-of c = search needs
-
-gain-of-requires : tie.Need-gain-of-requires Inv-loop μ-loop
-gain-of-requires c κs = search needs
+element-copy-out-v : tie.Need-element-copy-out-v Inv-loop μ-loop
+element-copy-out-v c = search needs
 
 raise-requires : tie.Need-raise-requires Inv-loop μ-loop
 raise-requires c κs = search needs
@@ -54,16 +45,13 @@ loop-less c = search needs
 
 loop-again : tie.Need-loop-again Inv-loop μ-loop
 loop-again c =
-    let a = c .before .before .before .before .before .before .before .before .before .before .args in
-    let l = c .before .before .before .before .before .before .before .before .loop in
-    let p = c .before .before .before .before .before .lender-of in
-    let b = c .before .before .before .before .borrower-of in
-    let g = c .before .before .gain-of in
+    let a = c .before .before .before .before .before .before .before .before .args in
+    let l = c .before .before .before .before .before .before .loop in
+    let p = c .before .before .before .lender-of in
     let r = c .raise .ensures in (
       search needs,
       ap length r ∙ simp length-set (l .inv .1),
-      rw r
-          (raise-more (a .ls .now) (a .round .now) (l .next) (l .i) (p .result) (b .result) (g .result) (p .ensures) (b .ensures) (g .ensures) (l .inv .1) (l .inv .2)),
+      rw r (raise-more (a .ls .now) (a .round .now) (l .next) (l .i) (p .result) (p .ensures) (l .inv .1) (l .inv .2)),
     )
 
 returns : tie.Need-returns Inv-loop μ-loop
@@ -84,10 +72,7 @@ next-round-spec =
     mul-w
     shared-slice-read-w
     lender-of-requires
-    borrower-of-requires
-    mul-gain-of
-    element-copy-out-gain-of
-    gain-of-requires
+    element-copy-out-v
     raise-requires
     add-i
     loop-less

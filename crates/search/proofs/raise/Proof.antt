@@ -1,5 +1,7 @@
 use Prim.Native.Nat.{max}
 use lib.Seq.{set-getD}
+use Rattle.model.specs.Loans.{borrower}
+use Rattle.model.specs.Search.{gain}
 use borrow.Author.Needs.{needs}
 use native.Mathlib.Omega.{arith}
 use mathlib.Core.Path.{_≡_, sym, ap, _∙_}
@@ -7,30 +9,42 @@ use lib.ListN.{getD, set}
 use Rattle.search.proofs.raise.Statement.{statement}
 use Rattle.search.proofs.raise.Tie as tie
 
-mul-if1 : tie.Need-mul-if1
-mul-if1 c = search needs
+returns : tie.Need-returns
+returns c =
+    let a = c .before .args in
+    let e : max (getD (a .next .now) (borrower (a .w)) 0) (gain (a .v) (a .w)) ≡ getD (a .next .now) (borrower (a .w)) 0 = omega arith in
+    sym (ap (set (a .next .now) (borrower (a .w))) e ∙ set-getD (a .next .now) (borrower (a .w)) 0)
 
-element-copy-out-if1 : tie.Need-element-copy-out-if1
-element-copy-out-if1 c = search needs
+borrower-of-requires : tie.Need-borrower-of-requires
+borrower-of-requires c κs = search needs
 
-mul-next : tie.Need-mul-next
-mul-next c = search needs
+gain-of-requires : tie.Need-gain-of-requires
+gain-of-requires c κs = search needs
+
+element-copy-out-larger : tie.Need-element-copy-out-larger
+element-copy-out-larger c = search needs
+
+larger-requires : tie.Need-larger-requires
+larger-requires c κs = search needs
 
 element-write-next : tie.Need-element-write-next
 element-write-next c = search needs
 
-returns : tie.Need-returns
-returns c =
-    let a = c .before .before .args in
-    let e : max (getD (a .next .now) (a .q) 0) (a .v) ≡ a .v = omega arith in
-    ap (set (a .next .now) (a .q)) (sym e)
-
 returns-2 : tie.Need-returns-2
 returns-2 c =
-    let a = c .before .before .args in
-    let e : max (getD (a .next .now) (a .q) 0) (a .v) ≡ getD (a .next .now) (a .q) 0 = omega arith in
-    sym (ap (set (a .next .now) (a .q)) e ∙ set-getD (a .next .now) (a .q) 0)
+    let a = c .before .before .before .before .before .args in
+    let q = c .before .before .before .borrower-of .ensures in
+    let g = c .before .before .gain-of .ensures in
+    ap (set (a .next .now) (c .before .before .before .borrower-of .result)) (c .larger .ensures) ∙ (λ j. set (a .next .now) (q j) (max (getD (a .next .now) (q j) 0) (g j)))
 
 pub raise-spec : {M : Type 1} → statement M
 raise-spec =
-    tie.close (tie.spec mul-if1 element-copy-out-if1 mul-next element-write-next returns returns-2)
+    tie.close
+    (tie.spec
+    returns
+    borrower-of-requires
+    gain-of-requires
+    element-copy-out-larger
+    larger-requires
+    element-write-next
+    returns-2)

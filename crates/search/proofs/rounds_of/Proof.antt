@@ -1,26 +1,39 @@
-use mathlib.Core.List.{[]}
+use mathlib.Core.List.{List, []}
+use Prim.Native.Nat.{max, ℕ, _+_, _-_, _≤_, _<_}
+use lib.ListN.{getD-replicate, length, getD, length-set}
+use lib.Seq.{getD-set-other}
+use Rattle.model.specs.Sets.{most}
+use Rattle.model.specs.Search.{nextRound, roundAt}
+use Rattle.search.proofs.Rounds.{fill-more, most-more, round-more}
+use Rattle.search.proofs.Settling.{settled-early, settled-last}
 use borrow.Author.Needs.{needs}
 use native.Mathlib.Omega.{arith}
 use mathlib.Core.Path.{_≡_, refl, sym, ap, _∙_}
-use Prim.Native.Nat.{ℕ, _+_, _-_, _≤_, _<_}
-use lib.ListN.{length, getD, length-set}
-use Rattle.model.specs.Search.{nextRound, roundAt}
-use Rattle.model.proofs.Indexed.{tabulate-ext}
-use Rattle.search.proofs.Rounds.{fill-more, round-more}
 use Rattle.search.proofs.rounds_of.Statement.{statement}
 use Rattle.search.proofs.rounds_of.Tie as tie
 
--- rounds 0 to k are made
+-- rounds 0 to k are made, round 0 stands in place of the later ones, and top is the greatest entry of who so far
 abbrev Inv-loop : tie.InvT-loop
-Inv-loop ls rounds₀ k₀ rounds k =
+Inv-loop ls who rounds₀ top₀ k₀ rounds top k =
     (k ≤ 7) × (length rounds ≡ 8) × ((j : ℕ) → j < k + 1 → getD rounds j [] ≡ roundAt (getD rounds₀ 0 []) ls j)
+    × ((j : ℕ) → k < j → j < 8 → getD rounds j [] ≡ getD rounds₀ 0 []) × (top ≡ most (λ (j : ℕ). getD (roundAt (getD rounds₀ 0 []) ls j) who 0) (k + 1))
 
 abbrev μ-loop : tie.MeasureT-loop
-μ-loop ls rounds₀ k₀ rounds k = 7 - k
+μ-loop ls who rounds₀ top₀ k₀ rounds top k = 7 - k
+
+array-read-top : tie.Need-array-read-top Inv-loop μ-loop
+array-read-top c = search needs
 
 loop-holds : tie.Need-loop-holds Inv-loop μ-loop
-unfolding roundAt
-loop-holds c = (search needs, refl, λ j h. let e : j ≡ 0 = omega arith in rw e refl)
+unfolding roundAt most
+loop-holds c =
+    let f : List ℕ = c .before .args .t2 in (
+      search needs,
+      refl,
+      λ j h. let e : j ≡ 0 = omega arith in rw e refl,
+      λ j h l. getD-replicate 8 j f [] l,
+      omega arith,
+    )
 
 mul-round : tie.Need-mul-round Inv-loop μ-loop
 mul-round c = search needs
@@ -28,8 +41,28 @@ mul-round c = search needs
 array-copy-out-round : tie.Need-array-copy-out-round Inv-loop μ-loop
 array-copy-out-round c = search needs
 
+greatest-requires : tie.Need-greatest-requires Inv-loop μ-loop
+greatest-requires c κs = search needs
+
+left-of-requires : tie.Need-left-of-requires Inv-loop μ-loop
+left-of-requires c κs = search needs
+
+returns : tie.Need-returns Inv-loop μ-loop
+returns c =
+    let a = c .before .before .before .before .before .before .before .before .args in
+    let l = c .before .before .before .before .before .before .loop in
+    let g = c .before .before .greatest .ensures ∙ (λ j. most (λ (p : ℕ). getD (l .inv .2 (l .k) (omega arith) j) p 0) 64) in
+    settled-early (a .t2) (a .ls .now) (l .k) (l .rounds) (a .who) (l .top) (omega arith) (omega arith) (l .inv .2) (l .inv .3) (l .inv .4)
+    (omega (arith, g, c .before .left-of .ensures, c .if1 .taken))
+
 next-round-requires : tie.Need-next-round-requires Inv-loop μ-loop
 next-round-requires c κs = search needs
+
+array-read-larger : tie.Need-array-read-larger Inv-loop μ-loop
+array-read-larger c = search needs
+
+larger-requires : tie.Need-larger-requires Inv-loop μ-loop
+larger-requires c κs = search needs
 
 add-k : tie.Need-add-k Inv-loop μ-loop
 add-k c = search needs
@@ -45,19 +78,23 @@ loop-less c = search needs
 
 loop-again : tie.Need-loop-again Inv-loop μ-loop
 loop-again c =
-    let a = c .before .before .before .before .before .before .args in
-    let l = c .before .before .before .before .loop in
-    let g = c .next-round in (
+    let a = c .before .before .before .before .before .before .before .before .before .before .before .args in
+    let l = c .before .before .before .before .before .before .before .before .before .loop in
+    let n = c .before .next-round in
+    let e : n .result ≡ roundAt (a .t2) (a .ls .now) (l .k + 1) =
+    n .ensures ∙ ap (nextRound (a .ls .now)) (l .inv .2 (l .k) (omega arith)) ∙ sym (round-more _ _ (l .k)) in (
       search needs,
       simp length-set (l .inv .1),
-      fill-more (roundAt (a .first) (a .ls .now)) [] (l .rounds) (l .k + 1) (g .result) (omega arith)
-          (g .ensures ∙ ap (nextRound (a .ls .now)) (l .inv .2 (l .k) (omega arith)) ∙ sym (round-more _ _ (l .k))) (l .inv .2),
+      fill-more (roundAt (a .t2) (a .ls .now)) [] (l .rounds) (l .k + 1) (n .result) (omega arith) e (l .inv .2),
+      λ j h d. getD-set-other (l .rounds) (l .k + 1) j (n .result) [] (omega arith) ∙ l .inv .3 j (omega arith) d,
+      c .larger .ensures ∙ (λ j. max (l .inv .4 j) (getD (e j) (a .who) 0)) ∙ sym (most-more _ (l .k + 1)),
     )
 
-returns : tie.Need-returns Inv-loop μ-loop
-returns c =
+returns-2 : tie.Need-returns-2 Inv-loop μ-loop
+returns-2 c =
+    let a = c .before .before .before .args in
     let l = c .before .loop in
-    tabulate-ext 8 _ [] (l .rounds) (l .inv .1) (λ j h. l .inv .2 j (omega arith))
+    settled-last (a .t2) (a .ls .now) (l .k) (l .rounds) (a .who) (l .top) (omega arith) (omega arith) (l .inv .2) (l .inv .3) (l .inv .4) (omega arith)
 
 pub rounds-of-spec : {M : Type 1} → statement M
 rounds-of-spec =
@@ -65,13 +102,19 @@ rounds-of-spec =
     (tie.spec
     Inv-loop
     μ-loop
+    array-read-top
     loop-holds
     mul-round
     array-copy-out-round
+    greatest-requires
+    left-of-requires
+    returns
     next-round-requires
+    array-read-larger
+    larger-requires
     add-k
     mul-rounds
     array-set-from-rounds
     loop-less
     loop-again
-    returns)
+    returns-2)

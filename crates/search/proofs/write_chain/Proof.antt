@@ -39,9 +39,6 @@ slice-write-chain c = search needs
 mul-v : tie.Need-mul-v Inv-loop μ-loop
 mul-v c = search needs
 
-mul-v-2 : tie.Need-mul-v-2 Inv-loop μ-loop
-mul-v-2 c = search needs
-
 index-1-v : tie.Need-index-1-v Inv-loop μ-loop
 index-1-v c = search needs
 
@@ -102,7 +99,6 @@ write-chain-spec =
     cast-chain
     slice-write-chain
     mul-v
-    mul-v-2
     index-1-v
     index-2-v
     sub-k

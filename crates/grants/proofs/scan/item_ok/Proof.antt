@@ -14,25 +14,25 @@ add-at c = search needs
 add-end : tie.Need-add-end
 add-end c = search needs
 
-sub-shown : tie.Need-sub-shown
-sub-shown c = search needs
+sub-hides : tie.Need-sub-hides
+sub-hides c = search needs
 
-part-shown-start : tie.Need-part-shown-start
-part-shown-start c = search needs
+part-hides-start : tie.Need-part-hides-start
+part-hides-start c = search needs
 
-part-shown-end : tie.Need-part-shown-end
-part-shown-end c = search needs
+part-hides-end : tie.Need-part-hides-end
+part-hides-end c = search needs
 
-element-copy-out-shown : tie.Need-element-copy-out-shown
-element-copy-out-shown c = search needs
+element-copy-out-hides : tie.Need-element-copy-out-hides
+element-copy-out-hides c = search needs
 
-shown-requires : tie.Need-shown-requires
-shown-requires c κs = simp (length-take, length-drop) (omega arith)
+hides-requires : tie.Need-hides-requires
+hides-requires c κs = simp (length-take, length-drop) (omega arith)
 
 returns : tie.Need-returns
 returns c =
     let q = c .before .before .before .before in
-    item-passes (q .args .image .now) (q .args .on) (q .pre .1) (λ i. omega (arith, c .before .before .before .shared-slice-known .given i)) _ (q .args .masks .now) (q .pre .2) (c .shown .ensures)
+    item-passes (q .args .image .now) (q .args .on) (q .pre .1) (λ i. omega (arith, c .before .before .before .shared-slice-known .given i)) _ (q .args .masks .now) (q .pre .2) (c .hides .ensures)
 
 pub item-ok-spec : {M : Type 1} → statement M
 item-ok-spec =
@@ -41,9 +41,9 @@ item-ok-spec =
     mul-at
     add-at
     add-end
-    sub-shown
-    part-shown-start
-    part-shown-end
-    element-copy-out-shown
-    shown-requires
+    sub-hides
+    part-hides-start
+    part-hides-end
+    element-copy-out-hides
+    hides-requires
     returns)

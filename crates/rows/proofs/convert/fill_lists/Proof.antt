@@ -1,54 +1,48 @@
-use mathlib.Core.Path.{_≡_}
+use mathlib.Core.Path.{_≡_, sym, ap, _∙_}
 use Prim.Native.Nat.{_-_, _≤_}
 use native.Mathlib.Omega.{arith}
 use borrow.Author.Needs.{needs}
-use lib.ListN.{length, getD, length-set}
+use lib.ListN.{length}
+use Rattle.model.specs.Cells.{at}
 use Rattle.model.specs.Unit.{lists, rows}
 use Rattle.model.specs.Convert.{convert}
-use Rattle.model.proofs.Edits.{lists-flat, rows-flat}
-use Rattle.model.proofs.Convert.{convert-length}
-use Rattle.model.proofs.Sweep.{Swept, swept-none, swept-more, swept-copy}
+use Rattle.model.proofs.Pending.{lacking, ahead, lacking-length}
+use Rattle.rows.proofs.Turned.{eights, lists-end}
 use Rattle.rows.proofs.convert.fill_lists.Statement.{statement}
 use Rattle.rows.proofs.convert.fill_lists.Tie as tie
 
 abbrev Inv-loop : tie.InvT-loop
-Inv-loop target₀ source k₀ target k = (k ≤ 513) × (length target ≡ 513) × Swept (λ i x. getD (convert rows lists source) i 0) target₀ k target
+Inv-loop target₀ source t₀ target t = (t ≤ 512) × (length target ≡ 513) × (target ≡ lacking 64 513 (ahead eights t) (convert rows lists source))
 
 abbrev μ-loop : tie.MeasureT-loop
-μ-loop target₀ source k₀ target k = 513 - k
+μ-loop target₀ source t₀ target t = 512 - t
+
+start-lists-requires : tie.Need-start-lists-requires Inv-loop μ-loop
+start-lists-requires c κs = search needs
 
 loop-holds : tie.Need-loop-holds Inv-loop μ-loop
-loop-holds c = (search needs, search needs, swept-none _ _)
+loop-holds c = (search needs, ap length (c .before .before .start-lists .ensures) ∙ lacking-length 64 513 (omega arith) _ _, c .before .before .start-lists .ensures)
 
-list-word-requires : tie.Need-list-word-requires Inv-loop μ-loop
-list-word-requires c κs = search needs
+put-eight-requires : tie.Need-put-eight-requires Inv-loop μ-loop
+put-eight-requires c κs = (c .before .before .before .before .before .before .before .before .before .pre .0, c .before .loop-test .taken, c .before .before .loop .inv .2)
 
-mul-target : tie.Need-mul-target Inv-loop μ-loop
-mul-target c = search needs
-
-slice-write-target : tie.Need-slice-write-target Inv-loop μ-loop
-slice-write-target c = search needs
-
-add-k : tie.Need-add-k Inv-loop μ-loop
-add-k c = search needs
+add-t : tie.Need-add-t Inv-loop μ-loop
+add-t c = search needs
 
 loop-less : tie.Need-loop-less Inv-loop μ-loop
 loop-less c = search needs
 
 loop-again : tie.Need-loop-again Inv-loop μ-loop
-loop-again c =
-    let l = c .before .before .loop in
-    (search needs, simp length-set (l .inv .1), swept-more _ _ (l .k) (l .target) _ (l .inv .2) (omega (arith, l .inv .2 .long)) (c .list-word .ensures))
+loop-again c = (search needs, ap length (c .before .before .put-eight .ensures) ∙ lacking-length 64 513 (omega arith) _ _, c .before .before .put-eight .ensures)
 
 same-length : tie.Need-same-length Inv-loop μ-loop
-same-length c = c .before .loop .inv .2 .long
+same-length c = c .before .loop .inv .1 ∙ sym (c .before .before .before .before .before .before .before .before .pre .1)
 
 returns : tie.Need-returns Inv-loop μ-loop
-unfolding lists
 returns c =
-    let e : c .before .loop .k ≡ 513 = omega arith in
-    let start = c .before .before .before .before in
-    swept-copy 513 (convert rows lists (start .args .source .now)) _ _ (convert-length rows lists rows-flat lists-flat (start .args .source .now)) (start .pre .1) (rw e at (c .before .loop .inv .2))
+    let l = c .before .loop in
+    let e : l .t ≡ 512 = omega arith in
+    (rw e at (l .inv .2)) ∙ lists-end (c .before .before .before .before .before .before .before .before .args .source .now)
 
 pub fill-lists-spec : {M : Type 1} → statement M
 fill-lists-spec =
@@ -56,11 +50,10 @@ fill-lists-spec =
     (tie.spec
     Inv-loop
     μ-loop
+    start-lists-requires
     loop-holds
-    list-word-requires
-    mul-target
-    slice-write-target
-    add-k
+    put-eight-requires
+    add-t
     loop-less
     loop-again
     same-length

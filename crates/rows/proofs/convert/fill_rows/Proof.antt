@@ -1,51 +1,48 @@
-use mathlib.Core.Path.{_≡_}
+use mathlib.Core.Path.{_≡_, sym, ap, _∙_}
 use Prim.Native.Nat.{_-_, _≤_}
 use native.Mathlib.Omega.{arith}
 use borrow.Author.Needs.{needs}
-use lib.ListN.{length, getD, length-set}
+use lib.ListN.{length}
+use Rattle.model.specs.Cells.{at}
 use Rattle.model.specs.Unit.{lists, rows}
 use Rattle.model.specs.Convert.{convert}
-use Rattle.model.proofs.Edits.{lists-flat, rows-flat}
-use Rattle.model.proofs.Convert.{convert-length}
-use Rattle.model.proofs.Sweep.{Swept, swept-none, swept-more, swept-copy}
+use Rattle.model.proofs.Pending.{lacking, ahead, lacking-length}
+use Rattle.rows.proofs.Turned.{rows-end}
 use Rattle.rows.proofs.convert.fill_rows.Statement.{statement}
 use Rattle.rows.proofs.convert.fill_rows.Tie as tie
 
 abbrev Inv-loop : tie.InvT-loop
-Inv-loop target₀ source k₀ target k = (k ≤ 4104) × (length target ≡ 4104) × Swept (λ i x. getD (convert lists rows source) i 0) target₀ k target
+Inv-loop target₀ source on₀ target on = (on ≤ 64) × (length target ≡ 4104) × (target ≡ lacking 8 4104 (ahead (rows .item) on) (convert lists rows source))
 
 abbrev μ-loop : tie.MeasureT-loop
-μ-loop target₀ source k₀ target k = 4104 - k
+μ-loop target₀ source on₀ target on = 64 - on
+
+start-rows-requires : tie.Need-start-rows-requires Inv-loop μ-loop
+start-rows-requires c κs = search needs
 
 loop-holds : tie.Need-loop-holds Inv-loop μ-loop
-loop-holds c = (search needs, search needs, swept-none _ _)
+loop-holds c = (search needs, ap length (c .before .before .start-rows .ensures) ∙ lacking-length 8 4104 (omega arith) _ _, c .before .before .start-rows .ensures)
 
-row-byte-requires : tie.Need-row-byte-requires Inv-loop μ-loop
-row-byte-requires c κs = search needs
+put-column-requires : tie.Need-put-column-requires Inv-loop μ-loop
+put-column-requires c κs = (c .before .before .before .before .before .before .before .before .before .pre .0, c .before .loop-test .taken, c .before .before .loop .inv .2)
 
-slice-write-target : tie.Need-slice-write-target Inv-loop μ-loop
-slice-write-target c = search needs
-
-add-k : tie.Need-add-k Inv-loop μ-loop
-add-k c = search needs
+add-on : tie.Need-add-on Inv-loop μ-loop
+add-on c = search needs
 
 loop-less : tie.Need-loop-less Inv-loop μ-loop
 loop-less c = search needs
 
 loop-again : tie.Need-loop-again Inv-loop μ-loop
-loop-again c =
-    let l = c .before .before .loop in
-    (search needs, simp length-set (l .inv .1), swept-more _ _ (l .k) (l .target) _ (l .inv .2) (omega (arith, l .inv .2 .long)) (c .row-byte .ensures))
+loop-again c = (search needs, ap length (c .before .before .put-column .ensures) ∙ lacking-length 8 4104 (omega arith) _ _, c .before .before .put-column .ensures)
 
 same-length : tie.Need-same-length Inv-loop μ-loop
-same-length c = c .before .loop .inv .2 .long
+same-length c = c .before .loop .inv .1 ∙ sym (c .before .before .before .before .before .before .before .before .pre .1)
 
 returns : tie.Need-returns Inv-loop μ-loop
-unfolding rows
 returns c =
-    let e : c .before .loop .k ≡ 4104 = omega arith in
-    let start = c .before .before .before .before in
-    swept-copy 4104 (convert lists rows (start .args .source .now)) _ _ (convert-length lists rows lists-flat rows-flat (start .args .source .now)) (start .pre .1) (rw e at (c .before .loop .inv .2))
+    let l = c .before .loop in
+    let e : l .on ≡ 64 = omega arith in
+    (rw e at (l .inv .2)) ∙ rows-end (c .before .before .before .before .before .before .before .before .args .source .now)
 
 pub fill-rows-spec : {M : Type 1} → statement M
 fill-rows-spec =
@@ -53,10 +50,10 @@ fill-rows-spec =
     (tie.spec
     Inv-loop
     μ-loop
+    start-rows-requires
     loop-holds
-    row-byte-requires
-    slice-write-target
-    add-k
+    put-column-requires
+    add-on
     loop-less
     loop-again
     same-length

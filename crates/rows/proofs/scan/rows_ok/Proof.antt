@@ -1,59 +1,25 @@
-use mathlib.Core.Bool.{true}
-use mathlib.Core.Path.{_≡_, sym, _∙_}
-use Prim.Native.Nat.{_-_, _≤_}
-use native.Mathlib.Omega.{arith}
-use borrow.Author.Tests.{not-true, not-false}
 use borrow.Author.Needs.{needs}
-use Rattle.model.specs.Sets.{allBelow}
+use mathlib.Core.Path.{sym, _∙_}
+use borrow.Author.Tests.{not-true, not-false}
 use Rattle.model.specs.Unit.{rows}
-use Rattle.model.proofs.Indexed.{below-none, below-step, below-stop}
-use Rattle.model.proofs.Order.{blockOk}
+use Rattle.model.proofs.Order.{two-parts}
 use Rattle.rows.proofs.scan.rows_ok.Statement.{statement}
 use Rattle.rows.proofs.scan.rows_ok.Tie as tie
 
-abbrev Inv-loop : tie.InvT-loop
-Inv-loop image masks who₀ who = (who ≤ 64) × (allBelow who (blockOk rows image 512) ≡ true)
-
-abbrev μ-loop : tie.MeasureT-loop
-μ-loop image masks who₀ who = 64 - who
-
-masks-requires : tie.Need-masks-requires Inv-loop μ-loop
+masks-requires : tie.Need-masks-requires
 masks-requires c κs = search needs
 
-loop-holds : tie.Need-loop-holds Inv-loop μ-loop
-loop-holds c = (search needs, below-none _)
+items-ok-requires : tie.Need-items-ok-requires
+items-ok-requires c κs = (search needs, c .before .masks .ensures)
 
-row-ok-requires : tie.Need-row-ok-requires Inv-loop μ-loop
-row-ok-requires c κs = (search needs, search needs, c .before .before .before .masks .ensures)
+returns : tie.Need-returns
+returns c = sym (two-parts rows (c .before .before .before .before .before .args .image .now) 512 64 ∙ rw (sym (c .before .items-ok .ensures) ∙ not-true _ (c .if1 .taken)))
 
-returns : tie.Need-returns Inv-loop μ-loop
-returns c = sym (below-stop 64 (blockOk rows (c .before .before .before .before .before .before .before .args .image .now) 512) (c .before .before .before .before .loop .who) (search needs) (sym (c .before .row-ok .ensures) ∙ not-true _ (c .if1 .taken)))
+persons-ok-requires : tie.Need-persons-ok-requires
+persons-ok-requires c κs = (search needs, c .before .before .before .before .masks .ensures)
 
-add-who : tie.Need-add-who Inv-loop μ-loop
-add-who c = search needs
-
-loop-less : tie.Need-loop-less Inv-loop μ-loop
-loop-less c = search needs
-
-loop-again : tie.Need-loop-again Inv-loop μ-loop
-loop-again c = (search needs, below-step (c .before .before .before .before .loop .who) _ (c .before .before .before .before .loop .inv .1) (sym (c .before .row-ok .ensures) ∙ not-false _ (c .if1 .left)))
-
-returns-2 : tie.Need-returns-2 Inv-loop μ-loop
-returns-2 c =
-    let e : c .before .loop .who ≡ 64 = omega arith in
-    sym (rw e at (c .before .loop .inv .1))
+returns-2 : tie.Need-returns-2
+returns-2 c = c .persons-ok .ensures ∙ sym (two-parts rows (c .before .before .before .before .before .before .before .args .image .now) 512 64 ∙ rw (sym (c .before .before .before .items-ok .ensures) ∙ not-false _ (c .before .before .if1 .left)))
 
 pub rows-ok-spec : {M : Type 1} → statement M
-rows-ok-spec =
-    tie.close
-    (tie.spec
-    Inv-loop
-    μ-loop
-    masks-requires
-    loop-holds
-    row-ok-requires
-    returns
-    add-who
-    loop-less
-    loop-again
-    returns-2)
+rows-ok-spec = tie.close (tie.spec masks-requires items-ok-requires returns persons-ok-requires returns-2)

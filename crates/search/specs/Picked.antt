@@ -1,0 +1,13 @@
+-- The m loans of the key among the first i, in their order, stand at the front.
+use mathlib.Core.Path.{_≡_}
+use mathlib.Core.List.{List}
+use Prim.Native.Nat.{ℕ, _≤_}
+use lib.Dec.{eqb}
+use lib.ListN.{length, take}
+use Rattle.model.specs.Sets.{keep}
+use Rattle.model.specs.Search.{keyOf}
+
+pub record Picked (loans : List ℕ) (key i m : ℕ) (out : List ℕ) : Type 0 where
+  pub within : i ≤ length loans
+  pub count : m ≤ i
+  pub are : take m out ≡ keep (λ w. eqb (keyOf w) key) (take i loans)
