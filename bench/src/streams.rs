@@ -72,7 +72,16 @@ fn loan(seeded: &mut Seeded, grant: Grant, lent: &mut VecDeque<Grant>) -> Line {
     Line::Lend(grant)
 }
 
-fn any_line(seeded: &mut Seeded, lent: &mut VecDeque<Grant>) -> Line {
+fn random_loan(seeded: &mut Seeded, grant: Grant) -> Line {
+    let grant = Grant { by: seeded.below(ITEMS + 1), ..grant };
+    match seeded.below(3) {
+        0 => Line::Recall(grant),
+        _ => Line::Lend(grant),
+    }
+}
+
+/// A line of any kind; loans and their ends come from `loan`.
+fn any_line(seeded: &mut Seeded, mut loan: impl FnMut(&mut Seeded, Grant) -> Line) -> Line {
     let by = [0, seeded.below(ITEMS + 1)][seeded.below(2) as usize];
     let grant = Grant { by, ..seeded.grant(ITEMS + 1) };
     match seeded.below(16) {
@@ -80,7 +89,7 @@ fn any_line(seeded: &mut Seeded, lent: &mut VecDeque<Grant>) -> Line {
         1 => Line::Delete(by, seeded.below(ITEMS + 1)),
         2 | 3 => Line::Allow(grant),
         4 => Line::Withdraw(grant),
-        5..=7 => loan(seeded, grant, lent),
+        5..=7 => loan(seeded, grant),
         _ => Line::Check(question(seeded, ITEMS)),
     }
 }
@@ -90,7 +99,15 @@ pub fn mixed(count: usize) -> Vec<Line> {
     let mut seeded = Seeded::new(22);
     let mut lent = VecDeque::new();
     let mut lines = opening(&mut seeded, ITEMS, 0);
-    lines.resize_with(count, || any_line(&mut seeded, &mut lent));
+    lines.resize_with(count, || any_line(&mut seeded, |seeded, grant| loan(seeded, grant, &mut lent)));
+    lines
+}
+
+/// The same with loans at random, two made for each recalled; a recall seldom meets one that stands, so loans pile up.
+pub fn growing(count: usize) -> Vec<Line> {
+    let mut seeded = Seeded::new(22);
+    let mut lines = opening(&mut seeded, ITEMS, LOANS);
+    lines.resize_with(count, || any_line(&mut seeded, random_loan));
     lines
 }
 
