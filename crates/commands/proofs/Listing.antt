@@ -6,7 +6,8 @@ use Rattle.model.specs.declared.Command.the-variants.{Create, Allow, Withdraw, 
 use Rattle.lines.specs.declared.Parsed.the-variants.{Run, Ask, Malformed}
 use Rattle.lines.specs.Bytes.{bytes}
 use Rattle.lines.specs.Show.{shown}
-use Rattle.lines.specs.Line.{parseLine, createLine, allowLine, withdrawLine, lendLine, checkLine, itemAt, rightAt, grantAt, checkAt, andThen, fieldAt, numberAt, decimal}
+use Rattle.lines.specs.Grammar.{meaning}
+use Rattle.lines.specs.Line.{parseLine, orElse, readBy, andThen, numberAt, decimal}
 use Rattle.lines.specs.Collect.{linesFrom}
 use Rattle.commands.specs.Output.{newline, lastOutput}
 use Rattle.commands.specs.Program.{asksOf, outputFrom, outputOf}
@@ -20,7 +21,7 @@ pub listing-asks :
     asksOf listing-input
     ≡ Run (Create 0 3) ∷ Run (Create 0 4) ∷ Run (Create 0 9) ∷ Run (Allow 0 3 9 1 1) ∷ Run (Lend 3 4 9 1 0) ∷ Ask 4 9 1 ∷ Run (Withdraw 0 3 9 1)
     ∷ Ask 4 9 1 ∷ []
-unfolding listing-input linesFrom parseLine createLine allowLine withdrawLine lendLine checkLine itemAt rightAt grantAt checkAt andThen fieldAt numberAt decimal
+unfolding listing-input linesFrom parseLine orElse meaning readBy andThen numberAt decimal
 listing-asks = refl
 
 -- malformed: a leading zero, a number too large, a field too many, two spaces, a space at the end, an empty line, fields in another order, a line that is not ended
@@ -28,12 +29,12 @@ pub malformed-lines :
     asksOf (bytes "do=create by=00 on=3\ndo=check who=4 on=9 right=4294967296\ndo=create by=0 on=3 right=1\ndo=create  by=0 on=3\n"
     ++ bytes "do=create by=0 on=3 \n\ndo=create on=3 by=0\ndo=create by=0 on=3")
     ≡ Malformed ∷ Malformed ∷ Malformed ∷ Malformed ∷ Malformed ∷ Malformed ∷ Malformed ∷ Malformed ∷ []
-unfolding linesFrom parseLine createLine checkLine itemAt checkAt andThen fieldAt numberAt decimal
+unfolding linesFrom parseLine orElse meaning readBy andThen numberAt decimal
 malformed-lines = refl
 
 -- the largest value, and an empty input
 pub largest-value : asksOf (bytes "do=lend by=3 to=4 on=9 right=1 depth=4294967295\n") ≡ Run (Lend 3 4 9 1 4294967295) ∷ []
-unfolding linesFrom parseLine lendLine grantAt andThen fieldAt numberAt decimal
+unfolding linesFrom parseLine orElse meaning readBy andThen numberAt decimal
 largest-value = refl
 
 pub empty-input : asksOf [] ≡ []

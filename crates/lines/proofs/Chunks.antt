@@ -16,7 +16,7 @@ use Rattle.lines.specs.Line.{parseLine}
 use Rattle.lines.specs.Collect.{beforeNewline, nothingHeld, past, afterLine, fedOf, heldAfter, bufferAfter, heldLine}
 use Rattle.lines.proofs.Line.{drop-next, drop-end}
 use Rattle.lines.proofs.Decimal.{sets-snoc}
-use Rattle.lines.proofs.Long.{long-malformed}
+use Rattle.lines.proofs.Grammar.{long-malformed}
 
 module _ (s : List ℕ) (i : ℕ) (h : i < length s) where
   pub newline-here : getD s i 0 ≡ 10 → beforeNewline (drop i s) ≡ []

@@ -1,7 +1,9 @@
 pub mod Line
 pub mod Decimal
 pub mod Values
+pub mod Patterns
+pub mod Verbs
 pub mod Grammar
-pub mod Long
+pub mod Turns
 pub mod Chunks
 pub mod Cuts

@@ -12,7 +12,7 @@ use Rattle.model.specs.Sets.{all}
 use Rattle.model.proofs.Sets.{by-cases, fst, snd, both, either}
 use Rattle.lines.specs.declared.Number.the-variants.{Value, Bad}
 use Rattle.lines.specs.Show.{shown, shownIn}
-use Rattle.lines.specs.Line.{startsWith, digit, digits, valueFrom, valueOf, decimal, numberAt, fieldAt}
+use Rattle.lines.specs.Line.{startsWith, digit, digits, valueFrom, valueOf, decimal, numberAt}
 use Rattle.lines.proofs.Line.{digit-low}
 use Rattle.lines.proofs.Decimal.{shown-one, shown-more, shown-more-length, shown-width, shown-value}
 
@@ -114,7 +114,7 @@ decimal-shown n h =
         (λ q. rw (ne-eqb (getD (shown n) 0 0) 48 (λ e. omega (arith, first-digit n (omega (arith, ltb-false n 10 q))))) (or-true (eqb (length (shown n)) 1)))
 
 -- ---- places
-drop-past : (s : List ℕ) (at : ℕ) (a b : List ℕ) → drop at s ≡ a ++ b → drop (at + length a) s ≡ b
+pub drop-past : (s : List ℕ) (at : ℕ) (a b : List ℕ) → drop at s ≡ a ++ b → drop (at + length a) s ≡ b
 drop-past s at a b e = sym (drop-drop (length a) at s) ∙ ap (drop (length a)) e ∙ drop-append-seam a b
 
 pub starts-split : (w l : List ℕ) → startsWith w l ≡ true → l ≡ w ++ drop (length w) l
@@ -123,7 +123,7 @@ starts-split (a ∷ w) [] e = absurd (false≢true e)
 starts-split (a ∷ w) (b ∷ l) e =
     by-cases (eqb b a) (λ q. rw (eqb-true b a q) (ap (λ (m : List ℕ). a ∷ m) (starts-split w l (rw q at e)))) (λ q. absurd (false≢true (rw q at e)))
 
-starts-self : (w l : List ℕ) → startsWith w (w ++ l) ≡ true
+pub starts-self : (w l : List ℕ) → startsWith w (w ++ l) ≡ true
 starts-self [] l = refl
 starts-self (a ∷ w) l = rw (eq-eqb a a refl) (starts-self w l)
 
@@ -153,25 +153,3 @@ module _ (s : List ℕ) (at v : ℕ) where
   number-read rest e h stop =
       let d : digits (drop at s) ≡ shown v = ap digits e ∙ digits-all (shown v) rest (unfold shown in (shown-all (suc v) v)) stop in
       rw (d, decimal-shown v h, shown-value v)
-
-module _ (key s : List ℕ) (at v : ℕ) where
-  pub field-seen : (n : ℕ) → fieldAt key s at ≡ Value v n → (drop at s ≡ key ++ (shown v ++ drop n s)) × (v ≤ 4294967295)
-  unfolding fieldAt
-  field-seen n e =
-      by-cases (startsWith key (drop at s))
-      (λ q.
-      let i = number-seen s (at + length key) v n (rw q at e) in
-      (starts-split key (drop at s) q ∙ ap (λ (l : List ℕ). key ++ l) (drop-drop (length key) at s ∙ i .0), i .1))
-      (λ q. let f : Bad ≡ Value v n = rw q at e in let z : _≡_ {A = ℕ} 0 1 = cc in absurd (omega arith))
-
-  pub field-read : (rest : List ℕ) → drop at s ≡ key ++ (shown v ++ rest) → v ≤ 4294967295 → digits rest ≡ []
-      → fieldAt key s at ≡ Value v (at + length key + length (shown v))
-  unfolding fieldAt
-  field-read rest e h stop =
-      rw (ap (startsWith key) e ∙ starts-self key (shown v ++ rest)) (number-read s (at + length key) v rest (drop-past s at key (shown v ++ rest) e) h stop)
-
-  pub field-past : (rest : List ℕ) → drop at s ≡ key ++ (shown v ++ rest) → drop (at + length key + length (shown v)) s ≡ rest
-  field-past rest e = drop-past s (at + length key) (shown v) rest (drop-past s at key (shown v ++ rest) e)
-
-pub number-past : (s : List ℕ) (at v : ℕ) (rest : List ℕ) → drop at s ≡ shown v ++ rest → drop (at + length (shown v)) s ≡ rest
-number-past s at v rest e = drop-past s at (shown v) rest e

@@ -17,6 +17,7 @@ pub record Line : Type 0 where
   pub text : List ℕ
   pub ended : Bool
 
+-- a line by both
 abbrev pub line : List ℕ → Bool → Line
 line l b = record { text = l; ended = b }
 

@@ -1,44 +1,92 @@
--- The lines that are not malformed, as document 01 shows them. `parseLine` reads exactly these.
+-- The command lines that are not malformed: a line of text for each verb. `parseLine` reads exactly these (`reads`, `reads-only` in
+-- proofs/Grammar). A line stands here without its byte 10.
 use mathlib.Core.Path.{_≡_}
-use mathlib.Core.Bool.{true}
+use mathlib.Core.Bool.{true, cond}
 use mathlib.Core.List.{List, [], _∷_, _++_}
-use Prim.Native.Nat.{ℕ}
-use lib.Dec.{leb}
-use Rattle.model.specs.declared.Command.the-variants.{Create, Delete, Allow, Withdraw, Lend, Recall}
+use Prim.Native.String.{String}
+use Prim.Native.Nat.{ℕ, zero, suc, _<_}
+use lib.ListN.{length, getD}
+use lib.Dec.{eqb, leb}
 use Rattle.model.specs.Sets.{all}
+use Rattle.model.specs.declared.Command.the-variants.{Create, Delete, Allow, Withdraw, Lend, Recall}
 use Rattle.lines.specs.declared.Parsed.{Parsed}
-use Rattle.lines.specs.declared.Parsed.the-variants.{Run, Ask}
+use Rattle.lines.specs.declared.Parsed.the-variants.{Run, Ask, Malformed}
 use Rattle.lines.specs.Bytes.{bytes}
 use Rattle.lines.specs.Show.{shown}
 
--- 'key=value fields in fixed order, one space between', from the first value on
-abbrev pub itemText : ℕ → ℕ → List ℕ
-itemText by on = shown by ++ (bytes " on=" ++ shown on)
+-- a part of a pattern: a byte that stands there as it is, or a value
+pub data Part : Type 0 where
+  literal : ℕ → Part
+  value : Part
 
-abbrev pub rightText : ℕ → ℕ → ℕ → ℕ → List ℕ
-rightText by to on right = shown by ++ (bytes " to=" ++ (shown to ++ (bytes " on=" ++ (shown on ++ (bytes " right=" ++ shown right)))))
+-- the pattern of a text, in which # (byte 35) stands for a value
+abbrev pub parts : List ℕ → List Part
+parts [] = []
+parts (c ∷ t) = cond (eqb c 35) value (literal c) ∷ parts t
 
-abbrev pub grantText : ℕ → ℕ → ℕ → ℕ → ℕ → List ℕ
-grantText by to on right depth =
-    shown by ++ (bytes " to=" ++ (shown to ++ (bytes " on=" ++ (shown on ++ (bytes " right=" ++ (shown right ++ (bytes " depth=" ++ shown depth)))))))
+-- the number of values in a pattern
+abbrev pub count : List Part → ℕ
+count [] = 0
+count (literal c ∷ t) = count t
+count (value ∷ t) = suc (count t)
 
-abbrev pub checkText : ℕ → ℕ → ℕ → List ℕ
-checkText who on right = shown who ++ (bytes " on=" ++ (shown on ++ (bytes " right=" ++ shown right)))
+-- what a line asks for, by its n values in their order
+abbrev pub Asks : ℕ → Type 0
+Asks zero = Parsed
+Asks (suc n) = ℕ → Asks n
 
--- 'at most 4294967295'
-abbrev pub Values : List ℕ → Type 0
-Values vs = all (λ v. leb v 4294967295) vs ≡ true
+-- a verb's line: its pattern, and what it asks for
+pub record Form : Type 0 where
+  pub pattern : List Part
+  pub asks : Asks (count pattern)
 
--- the line s asks for this
-pub data Written (s : List ℕ) : Parsed → Type 0 where
-  create : {by on : ℕ} → s ≡ bytes "do=create by=" ++ itemText by on → Values (by ∷ on ∷ []) → Written s (Run (Create by on))
-  delete : {by on : ℕ} → s ≡ bytes "do=delete by=" ++ itemText by on → Values (by ∷ on ∷ []) → Written s (Run (Delete by on))
-  allow : {by to on right depth : ℕ} → s ≡ bytes "do=allow by=" ++ grantText by to on right depth → Values (by ∷ to ∷ on ∷ right ∷ depth ∷ [])
-      → Written s (Run (Allow by to on right depth))
-  withdraw : {by to on right : ℕ} → s ≡ bytes "do=withdraw by=" ++ rightText by to on right → Values (by ∷ to ∷ on ∷ right ∷ [])
-      → Written s (Run (Withdraw by to on right))
-  lend : {by to on right depth : ℕ} → s ≡ bytes "do=lend by=" ++ grantText by to on right depth → Values (by ∷ to ∷ on ∷ right ∷ depth ∷ [])
-      → Written s (Run (Lend by to on right depth))
-  recall : {by to on right depth : ℕ} → s ≡ bytes "do=recall by=" ++ grantText by to on right depth → Values (by ∷ to ∷ on ∷ right ∷ depth ∷ [])
-      → Written s (Run (Recall by to on right depth))
-  check : {who on right : ℕ} → s ≡ bytes "do=check who=" ++ checkText who on right → Values (who ∷ on ∷ right ∷ []) → Written s (Ask who on right)
+-- the form that a text shows
+abbrev pub form : (t : String) → Asks (count (parts (bytes t))) → Form
+form t f = record { pattern = parts (bytes t); asks = f }
+
+-- 'A line is key=value fields in fixed order, one space between': '`do` (create, delete, allow, withdraw, lend, recall, check), then the
+-- fields in the order of the journal section; check has who, on, right'. A verb is a place in this list
+abbrev pub forms : List Form
+forms =
+    form "do=create by=# on=#" (λ by on. Run (Create by on)) ∷
+    form "do=delete by=# on=#" (λ by on. Run (Delete by on)) ∷
+    form "do=allow by=# to=# on=# right=# depth=#" (λ by to on right depth. Run (Allow by to on right depth)) ∷
+    form "do=withdraw by=# to=# on=# right=#" (λ by to on right. Run (Withdraw by to on right)) ∷
+    form "do=lend by=# to=# on=# right=# depth=#" (λ by to on right depth. Run (Lend by to on right depth)) ∷
+    form "do=recall by=# to=# on=# right=# depth=#" (λ by to on right depth. Run (Recall by to on right depth)) ∷
+    form "do=check who=# on=# right=#" (λ who on right. Ask who on right) ∷
+    []
+
+-- what stands past the end of the list
+abbrev pub noForm : Form
+noForm = form "" Malformed
+
+-- the form of a verb
+abbrev pub formOf : ℕ → Form
+formOf v = getD forms v noForm
+
+-- n values in a list, from place k on, handed to what asks for them
+abbrev pub applied : (n : ℕ) → Asks n → ℕ → List ℕ → Parsed
+applied zero x k vs = x
+applied (suc n) f k vs = applied n (f (getD vs k 0)) (suc k) vs
+
+-- what a form asks for with these values
+unfoldable pub meaning : Form → List ℕ → Parsed
+meaning f vs = applied (count (f .pattern)) (f .asks) 0 vs
+
+-- the bytes of a pattern with these values, each in decimal digits with no leading zero
+abbrev pub written : List Part → List ℕ → List ℕ
+written [] vs = []
+written (literal c ∷ t) vs = c ∷ written t vs
+written (value ∷ t) [] = []
+written (value ∷ t) (v ∷ vs) = shown v ++ written t vs
+
+-- the line s asks for x: it is the line of a verb with as many values as its pattern has, each 'at most 4294967295'
+pub record Written (s : List ℕ) (x : Parsed) : Type 0 where
+  pub verb : ℕ
+  pub known : verb < length forms
+  pub values : List ℕ
+  pub line : s ≡ written (formOf verb .pattern) values
+  pub many : length values ≡ count (formOf verb .pattern)
+  pub small : all (λ v. leb v 4294967295) values ≡ true
+  pub means : x ≡ meaning (formOf verb) values

@@ -1,6 +1,7 @@
 pub mod Bytes
-pub mod Line
 pub mod Show
 pub mod Grammar
+pub mod Line
+pub mod Reader
 pub mod Collect
 pub mod Chunks

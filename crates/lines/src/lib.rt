@@ -5,9 +5,15 @@ pub mod collect;
 pub mod show;
 
 ghost use mathlib.Core.Path.{_≡_};
+ghost use mathlib.Core.Bool.{true};
 ghost use Prim.Native.Nat.{_-_, _≤_};
-ghost use lib.ListN.{length, drop};
-ghost use Rattle.lines.specs.Line.{startsWith, digit, numberAt, Digits, fieldAt, itemAt, rightAt, grantAt, checkAt, createLine, deleteLine, allowLine, withdrawLine, lendLine, recallLine, checkLine, parseLine};
+ghost use lib.ListN.{length, drop, getD};
+ghost use Rattle.model.specs.declared.Command.the-variants.{Allow, Withdraw, Lend, Recall};
+ghost use Rattle.lines.specs.declared.Parsed.the-variants.{Run, Ask};
+ghost use Rattle.lines.specs.Bytes.{bytes};
+ghost use Rattle.lines.specs.Grammar.{formOf, meaning};
+ghost use Rattle.lines.specs.Line.{startsWith, digit, numberAt, valuesBy, parseLine};
+ghost use Rattle.lines.specs.Reader.{Digits, fieldAt, keyAt, partsOf, most, Blank, FilledAs, Only};
 
 // A number and the place after it, or none.
 enum Number {
@@ -110,124 +116,59 @@ fn field(s: &[u8], at: usize, key: &[u8]) -> Number
     Number::Bad
 }
 
-// The values of create and delete.
-enum ItemRead {
-    Got { by: u32, on: u32 },
-    Bad,
-}
-
-// From the first value to the line's end, as the three below.
-fn item_fields(s: &[u8], at: usize) -> ItemRead
-    ensures { λ r. ⌜ r ≡ itemAt (now (s .entry)) at ⌝ }
+// The value of a key at a place, by the key's letter.
+fn key_value(s: &[u8], at: usize, key: u8) -> Number
+    ensures { λ r. ⌜ r ≡ keyAt key (now (s .entry)) at ⌝ }
 {
-    let Number::Value(by, p1) = read_number(s, at) else {
-        return ItemRead::Bad;
-    };
-    let Number::Value(on, p2) = field(s, p1, b" on=") else {
-        return ItemRead::Bad;
-    };
-    if p2 == s.len() {
-        return ItemRead::Got { by, on };
+    match key {
+        b'b' => field(s, at, b" by="),
+        b'w' => field(s, at, b" who="),
+        b't' => field(s, at, b" to="),
+        b'o' => field(s, at, b" on="),
+        b'r' => field(s, at, b" right="),
+        _ => field(s, at, b" depth="),
     }
-    ItemRead::Bad
 }
 
-// The values of withdraw.
-enum RightRead {
-    Got {
-        by: u32,
-        to: u32,
-        on: u32,
-        right: u32,
-    },
-    Bad,
-}
+// The most values that a line has.
+const MOST: usize = 5;
 
-fn right_fields(s: &[u8], at: usize) -> RightRead
-    ensures { λ r. ⌜ r ≡ rightAt (now (s .entry)) at ⌝ }
+// Whether a word and these keys, and nothing after them, come after the line's `do=`; and the values of the keys.
+fn fill(values: &mut [u32; MOST], s: &[u8], word: &[u8], keys: &[u8]) -> bool
+    requires { ⌜ (length (now keys) ≤ most) × Blank (now values) × (startsWith (bytes "do=") (now s) ≡ true) ⌝ }
+    ensures { λ r. ⌜ FilledAs (valuesBy (partsOf (now (word .entry)) (now (keys .entry))) (now (s .entry))) r (now (values .exit)) ⌝ }
 {
-    let Number::Value(by, p1) = read_number(s, at) else {
-        return RightRead::Bad;
-    };
-    let Number::Value(to, p2) = field(s, p1, b" to=") else {
-        return RightRead::Bad;
-    };
-    let Number::Value(on, p3) = field(s, p2, b" on=") else {
-        return RightRead::Bad;
-    };
-    let Number::Value(right, p4) = field(s, p3, b" right=") else {
-        return RightRead::Bad;
-    };
-    if p4 == s.len() {
-        return RightRead::Got { by, to, on, right };
+    if !starts(s, 3, word) {
+        return false;
     }
-    RightRead::Bad
-}
-
-// The values of allow, lend and recall.
-enum GrantRead {
-    Got {
-        by: u32,
-        to: u32,
-        on: u32,
-        right: u32,
-        depth: u32,
-    },
-    Bad,
-}
-
-fn grant_fields(s: &[u8], at: usize) -> GrantRead
-    ensures { λ r. ⌜ r ≡ grantAt (now (s .entry)) at ⌝ }
-{
-    let Number::Value(by, p1) = read_number(s, at) else {
-        return GrantRead::Bad;
-    };
-    let Number::Value(to, p2) = field(s, p1, b" to=") else {
-        return GrantRead::Bad;
-    };
-    let Number::Value(on, p3) = field(s, p2, b" on=") else {
-        return GrantRead::Bad;
-    };
-    let Number::Value(right, p4) = field(s, p3, b" right=") else {
-        return GrantRead::Bad;
-    };
-    let Number::Value(depth, p5) = field(s, p4, b" depth=") else {
-        return GrantRead::Bad;
-    };
-    if p5 == s.len() {
-        return GrantRead::Got {
-            by,
-            to,
-            on,
-            right,
-            depth,
+    let mut p = 3 + word.len();
+    let mut k = 0;
+    while k < keys.len() {
+        let Number::Value(v, n) = key_value(s, p, keys[k]) else {
+            return false;
         };
+        values[k] = v;
+        p = n;
+        k += 1;
     }
-    GrantRead::Bad
+    p == s.len()
 }
 
-// The values of check.
-enum CheckRead {
-    Got { who: u32, on: u32, right: u32 },
-    Bad,
-}
-
-fn check_fields(s: &[u8], at: usize) -> CheckRead
-    ensures { λ r. ⌜ r ≡ checkAt (now (s .entry)) at ⌝ }
+// The values of a line by the word and the keys of a verb. The verbs are numbered as the grammar lists them.
+fn read_by(values: &mut [u32; MOST], s: &[u8], verb: usize) -> bool
+    requires { ⌜ Blank (now values) × (startsWith (bytes "do=") (now s) ≡ true) ⌝ }
+    ensures { λ r. ⌜ FilledAs (valuesBy (formOf verb .pattern) (now (s .entry))) r (now (values .exit)) ⌝ }
 {
-    let Number::Value(who, p1) = read_number(s, at) else {
-        return CheckRead::Bad;
-    };
-    let Number::Value(on, p2) = field(s, p1, b" on=") else {
-        return CheckRead::Bad;
-    };
-    let Number::Value(right, p3) = field(s, p2, b" right=") else {
-        return CheckRead::Bad;
-    };
-    if p3 == s.len() {
-        return CheckRead::Got { who, on, right };
+    match verb {
+        0 => fill(values, s, b"create", b"bo"),
+        1 => fill(values, s, b"delete", b"bo"),
+        2 => fill(values, s, b"allow", b"btord"),
+        3 => fill(values, s, b"withdraw", b"btor"),
+        4 => fill(values, s, b"lend", b"btord"),
+        5 => fill(values, s, b"recall", b"btord"),
+        6 => fill(values, s, b"check", b"wor"),
+        _ => false,
     }
-    CheckRead::Bad
 }
 
 // What a line asks for.
@@ -237,135 +178,110 @@ pub enum Parsed {
     Malformed,
 }
 
-// The line of one command each, from its first value on.
-fn create_line(s: &[u8]) -> Parsed
-    ensures { λ r. ⌜ r ≡ createLine (now (s .entry)) ⌝ }
+// What the verbs with more than two fields ask for.
+fn allow(by: u32, to: u32, on: u32, right: u32, depth: u32) -> Parsed
+    ensures { λ r. ⌜ r ≡ Run (Allow by to on right depth) ⌝ }
 {
-    match item_fields(s, 13) {
-        ItemRead::Got { by, on } => Parsed::Run(Command::Create { by, on }),
-        ItemRead::Bad => Parsed::Malformed,
+    Parsed::Run(Command::Allow {
+        by,
+        to,
+        on,
+        right,
+        depth,
+    })
+}
+
+fn withdraw(by: u32, to: u32, on: u32, right: u32) -> Parsed
+    ensures { λ r. ⌜ r ≡ Run (Withdraw by to on right) ⌝ }
+{
+    Parsed::Run(Command::Withdraw { by, to, on, right })
+}
+
+fn lend(by: u32, to: u32, on: u32, right: u32, depth: u32) -> Parsed
+    ensures { λ r. ⌜ r ≡ Run (Lend by to on right depth) ⌝ }
+{
+    Parsed::Run(Command::Lend {
+        by,
+        to,
+        on,
+        right,
+        depth,
+    })
+}
+
+fn recall(by: u32, to: u32, on: u32, right: u32, depth: u32) -> Parsed
+    ensures { λ r. ⌜ r ≡ Run (Recall by to on right depth) ⌝ }
+{
+    Parsed::Run(Command::Recall {
+        by,
+        to,
+        on,
+        right,
+        depth,
+    })
+}
+
+fn ask(who: u32, on: u32, right: u32) -> Parsed
+    ensures { λ r. ⌜ r ≡ Ask who on right ⌝ }
+{
+    Parsed::Ask { who, on, right }
+}
+
+// What the line of a verb with these values asks for.
+fn meaning_of(verb: usize, values: &[u32; MOST]) -> Parsed
+    ensures { λ r. ⌜ r ≡ meaning (formOf verb) (now (values .entry)) ⌝ }
+{
+    let a = values[0];
+    let b = values[1];
+    let c = values[2];
+    let d = values[3];
+    let e = values[4];
+    match verb {
+        0 => Parsed::Run(Command::Create { by: a, on: b }),
+        1 => Parsed::Run(Command::Delete { by: a, on: b }),
+        2 => allow(a, b, c, d, e),
+        3 => withdraw(a, b, c, d),
+        4 => lend(a, b, c, d, e),
+        5 => recall(a, b, c, d, e),
+        6 => ask(a, b, c),
+        _ => Parsed::Malformed,
     }
 }
 
-fn delete_line(s: &[u8]) -> Parsed
-    ensures { λ r. ⌜ r ≡ deleteLine (now (s .entry)) ⌝ }
+// A verb for each number that two bytes of its line give: a stands for the first of the grammar's list.
+const VERBS: [u8; 32] = *b"agaaaafaadaaaaaaaaaaaeaabacaaaaa";
+
+// The byte at a place, and 0 past the end.
+fn byte(s: &[u8], at: usize) -> u8
+    ensures { λ r. ⌜ r ≡ getD (now (s .entry)) at 0 ⌝ }
 {
-    match item_fields(s, 13) {
-        ItemRead::Got { by, on } => Parsed::Run(Command::Delete { by, on }),
-        ItemRead::Bad => Parsed::Malformed,
+    if at < s.len() {
+        return s[at];
     }
+    0
 }
 
-fn allow_line(s: &[u8]) -> Parsed
-    ensures { λ r. ⌜ r ≡ allowLine (now (s .entry)) ⌝ }
+// The only verb that can have this line: bytes 5 and 9 tell the verbs apart.
+fn verb_at(s: &[u8]) -> usize
+    ensures { λ r. ⌜ Only (now (s .entry)) r ⌝ }
 {
-    match grant_fields(s, 12) {
-        GrantRead::Got {
-            by,
-            to,
-            on,
-            right,
-            depth,
-        } => Parsed::Run(Command::Allow {
-            by,
-            to,
-            on,
-            right,
-            depth,
-        }),
-        GrantRead::Bad => Parsed::Malformed,
-    }
+    let a = byte(s, 5) as usize;
+    let b = byte(s, 9) as usize;
+    let h = (2 * a + b) % 32;
+    (VERBS[h] - b'a') as usize
 }
 
-fn withdraw_line(s: &[u8]) -> Parsed
-    ensures { λ r. ⌜ r ≡ withdrawLine (now (s .entry)) ⌝ }
-{
-    match right_fields(s, 15) {
-        RightRead::Got { by, to, on, right } => Parsed::Run(Command::Withdraw {
-            by,
-            to,
-            on,
-            right,
-        }),
-        RightRead::Bad => Parsed::Malformed,
-    }
-}
-
-fn lend_line(s: &[u8]) -> Parsed
-    ensures { λ r. ⌜ r ≡ lendLine (now (s .entry)) ⌝ }
-{
-    match grant_fields(s, 11) {
-        GrantRead::Got {
-            by,
-            to,
-            on,
-            right,
-            depth,
-        } => Parsed::Run(Command::Lend {
-            by,
-            to,
-            on,
-            right,
-            depth,
-        }),
-        GrantRead::Bad => Parsed::Malformed,
-    }
-}
-
-fn recall_line(s: &[u8]) -> Parsed
-    ensures { λ r. ⌜ r ≡ recallLine (now (s .entry)) ⌝ }
-{
-    match grant_fields(s, 13) {
-        GrantRead::Got {
-            by,
-            to,
-            on,
-            right,
-            depth,
-        } => Parsed::Run(Command::Recall {
-            by,
-            to,
-            on,
-            right,
-            depth,
-        }),
-        GrantRead::Bad => Parsed::Malformed,
-    }
-}
-
-fn check_line(s: &[u8]) -> Parsed
-    ensures { λ r. ⌜ r ≡ checkLine (now (s .entry)) ⌝ }
-{
-    match check_fields(s, 13) {
-        CheckRead::Got { who, on, right } => Parsed::Ask { who, on, right },
-        CheckRead::Bad => Parsed::Malformed,
-    }
-}
-
-// What a line asks for; the line comes without its byte 10. The words go up to the first value, so that none begins another.
+// What a line asks for; the line comes without its byte 10.
 pub fn parse(line: &[u8]) -> Parsed
     ensures { λ r. ⌜ r ≡ parseLine (now (line .entry)) ⌝ }
 {
-    if starts(line, 0, b"do=create by=") {
-        return create_line(line);
+    if !starts(line, 0, b"do=") {
+        return Parsed::Malformed;
     }
-    if starts(line, 0, b"do=delete by=") {
-        return delete_line(line);
-    }
-    if starts(line, 0, b"do=allow by=") {
-        return allow_line(line);
-    }
-    if starts(line, 0, b"do=withdraw by=") {
-        return withdraw_line(line);
-    }
-    if starts(line, 0, b"do=lend by=") {
-        return lend_line(line);
-    }
-    if starts(line, 0, b"do=recall by=") {
-        return recall_line(line);
-    }
-    if starts(line, 0, b"do=check who=") {
-        return check_line(line);
+    let verb = verb_at(line);
+    let mut values = [0u32; MOST];
+    if read_by(&mut values, line, verb) {
+        return meaning_of(verb, &values);
     }
     Parsed::Malformed
 }

@@ -1,0 +1,145 @@
+-- Lines by a pattern: the reader gets values exactly where the pattern with these values is written.
+use Prim.Native.Nat.{ℕ, zero, suc, _+_, _≤_, _<_}
+use native.Mathlib.Omega.{arith}
+use mathlib.Core.Path.{_≡_, refl, sym, ap, _∙_}
+use mathlib.Core.Bool.{Bool, true, false, not, _&&_, false≢true}
+use mathlib.Core.List.{List, [], _∷_, _++_, append-nil, append-assoc}
+use borrow.Author.Tests.{leb-true, le-leb, eqb-true, eq-eqb}
+use lib.ListN.{length, drop, getD, length-append, length-drop}
+use lib.Seq.{drop-drop}
+use lib.Dec.{eqb, leb}
+use Rattle.model.specs.Sets.{all}
+use Rattle.model.proofs.Sets.{by-cases, fst, snd, both}
+use Rattle.lines.specs.declared.Number.{Number}
+use Rattle.lines.specs.declared.Number.the-variants.{Value, Bad}
+use Rattle.lines.specs.Show.{shown}
+use Rattle.lines.specs.Grammar.{Part, literal, value, count, written}
+use Rattle.lines.specs.Line.{startsWith, digit, digits, numberAt, andThen, Read, Got, Not, readBy}
+use Rattle.lines.proofs.Line.{drop-end}
+use Rattle.lines.proofs.Decimal.{shown-32}
+use Rattle.lines.proofs.Values.{number-seen, number-read, starts-split, starts-self, drop-past}
+
+-- 'at most 4294967295'
+abbrev pub small : ℕ → Bool
+small v = leb v 4294967295
+
+-- ---- what is read is written there
+pub record Seen (t : List Part) (s : List ℕ) (p : ℕ) (vs out : List ℕ) : Type 0 where
+  pub ws : List ℕ
+  pub whole : out ≡ vs ++ ws
+  pub text : drop p s ≡ written t ws
+  pub many : length ws ≡ count t
+  pub fits : all small ws ≡ true
+
+pub seen : (t : List Part) (s : List ℕ) (p : ℕ) (vs out : List ℕ) → readBy t s p vs ≡ Got out → Seen t s p vs out
+unfolding readBy andThen all
+seen [] s p vs out e =
+    by-cases (eqb p (length s))
+    (λ q.
+    let f : Got vs ≡ Got out = rw q at e in
+    let g : vs ≡ out = cc in
+    record {
+      ws = [];
+      whole = sym g ∙ sym (append-nil vs);
+      text = drop-end s p (omega (arith, eqb-true p (length s) q));
+      many = refl;
+      fits = refl;
+    })
+    (λ q. let f : Not ≡ Got out = rw q at e in let z : _≡_ {A = ℕ} 0 1 = cc in absurd (omega arith))
+seen (literal c ∷ t) s p vs out e =
+    by-cases (startsWith (c ∷ []) (drop p s))
+    (λ q.
+    let i = seen t s (p + 1) vs out (rw q at e) in
+    record {
+      ws = i .ws;
+      whole = i .whole;
+      text = starts-split (c ∷ []) (drop p s) q ∙ ap (λ (l : List ℕ). c ∷ l) (drop-drop 1 p s ∙ i .text);
+      many = i .many;
+      fits = i .fits;
+    })
+    (λ q. let f : Not ≡ Got out = rw q at e in let z : _≡_ {A = ℕ} 0 1 = cc in absurd (omega arith))
+seen (value ∷ t) s p vs out e = by-value (λ v n f. seen t s n (vs ++ (v ∷ [])) out f) (numberAt s p) refl e
+  where
+    by-value : ((v n : ℕ) → readBy t s n (vs ++ (v ∷ [])) ≡ Got out → Seen t s n (vs ++ (v ∷ [])) out) → (r : Number) → numberAt s p ≡ r
+        → andThen r Not (λ v n. readBy t s n (vs ++ (v ∷ []))) ≡ Got out → Seen (value ∷ t) s p vs out
+    by-value go (Value v n) q f =
+        let i = go v n f in
+        let h = number-seen s p v n q in
+        record {
+          ws = v ∷ i .ws;
+          whole = i .whole ∙ append-assoc vs (v ∷ []) (i .ws);
+          text = h .0 ∙ ap (λ (l : List ℕ). shown v ++ l) (i .text);
+          many = ap suc (i .many);
+          fits = both (le-leb v 4294967295 (h .1)) (i .fits);
+        }
+    by-value go Bad q f = let z : _≡_ {A = ℕ} 0 1 = cc in absurd (omega arith)
+
+-- ---- what is written is read, where no digit comes after a value
+-- no digit comes next
+abbrev pub stop : List Part → Bool
+stop [] = true
+stop (literal c ∷ t) = not (digit c)
+stop (value ∷ t) = false
+
+abbrev pub sound : List Part → Bool
+sound [] = true
+sound (literal c ∷ t) = sound t
+sound (value ∷ t) = stop t && sound t
+
+stop-written : (t : List Part) (ws : List ℕ) → stop t ≡ true → digits (written t ws) ≡ []
+stop-written [] ws h = refl
+stop-written (literal c ∷ t) ws h = by-cases (digit c) (λ q. absurd (false≢true (rw q at h))) (λ q. rw q)
+stop-written (value ∷ t) ws h = absurd (false≢true h)
+
+pub read : (t : List Part) (s : List ℕ) (p : ℕ) (vs ws : List ℕ) → sound t ≡ true → drop p s ≡ written t ws → length ws ≡ count t
+    → all small ws ≡ true → p ≤ length s → readBy t s p vs ≡ Got (vs ++ ws)
+unfolding readBy andThen all
+read [] s p vs [] o e m f h =
+    let g : p ≡ length s = omega (arith, length-drop p s, ap length e) in
+    rw (eq-eqb p (length s) g, append-nil vs)
+read [] s p vs (w ∷ ws) o e m f h = absurd (omega (arith, m))
+read (literal c ∷ t) s p vs ws o e m f h =
+    rw (ap (startsWith (c ∷ [])) e ∙ starts-self (c ∷ []) (written t ws))
+    (read t s (p + 1) vs ws o (drop-past s p (c ∷ []) (written t ws) e) m f (omega (arith, length-drop p s, ap length e)))
+read (value ∷ t) s p vs [] o e m f h = absurd (omega (arith, m))
+read (value ∷ t) s p vs (w ∷ ws) o e m f h =
+    let k = stop-written t ws (fst (stop t) (sound t) o) in
+    let b = leb-true w 4294967295 (fst (small w) (all small ws) f) in
+    let l = length-append (shown w) (written t ws) in
+    let i = read t s (p + length (shown w)) (vs ++ (w ∷ [])) ws (snd (stop t) (sound t) o) (drop-past s p (shown w) (written t ws) e)
+    (omega (arith, m)) (snd (small w) (all small ws) f) (omega (arith, length-drop p s, ap length e)) in
+    rw (number-read s p w (written t ws) e b k) (i ∙ ap Got (append-assoc vs (w ∷ []) ws))
+
+-- ---- the bytes before the first value
+abbrev pub prefix : List Part → List ℕ
+prefix [] = []
+prefix (literal c ∷ t) = c ∷ prefix t
+prefix (value ∷ t) = []
+
+pub prefix-at : (t : List Part) (ws : List ℕ) (i : ℕ) → i < length (prefix t) → getD (written t ws) i 0 ≡ getD (prefix t) i 0
+prefix-at [] ws i h = absurd (omega arith)
+prefix-at (literal c ∷ t) ws zero h = refl
+prefix-at (literal c ∷ t) ws (suc i) h = prefix-at t ws i (omega arith)
+prefix-at (value ∷ t) ws i h = absurd (omega arith)
+
+pub starts-written : (w : List ℕ) (t : List Part) (ws : List ℕ) → startsWith w (prefix t) ≡ true → startsWith w (written t ws) ≡ true
+starts-written [] t ws e = refl
+starts-written (a ∷ w) [] ws e = absurd (false≢true e)
+starts-written (a ∷ w) (literal c ∷ t) ws e =
+    by-cases (eqb c a) (λ q. rw q (starts-written w t ws (rw q at e))) (λ q. absurd (false≢true (rw q at e)))
+starts-written (a ∷ w) (value ∷ t) ws e = absurd (false≢true e)
+
+-- ---- the most bytes that a line of a pattern has
+abbrev pub widest : List Part → ℕ
+widest [] = 0
+widest (literal c ∷ t) = 1 + widest t
+widest (value ∷ t) = 10 + widest t
+
+pub written-width : (t : List Part) (ws : List ℕ) → all small ws ≡ true → length (written t ws) ≤ widest t
+unfolding all
+written-width [] ws f = omega arith
+written-width (literal c ∷ t) ws f = omega (arith, written-width t ws f)
+written-width (value ∷ t) [] f = omega arith
+written-width (value ∷ t) (w ∷ ws) f =
+    let b = leb-true w 4294967295 (fst (small w) (all small ws) f) in
+    omega (arith, length-append (shown w) (written t ws), shown-32 w (omega arith), written-width t ws (snd (small w) (all small ws) f))
