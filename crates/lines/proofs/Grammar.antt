@@ -11,7 +11,7 @@ use Rattle.lines.specs.declared.Parsed.the-variants.{Malformed}
 use Rattle.lines.specs.Bytes.{bytes}
 use Rattle.lines.specs.Grammar.{formOf, written, Written}
 use Rattle.lines.specs.Line.{startsWith, Read, Got, Not, valuesBy, orElse, parseLine}
-use Rattle.lines.proofs.Patterns.{Seen, seen, read, written-width}
+use Rattle.lines.proofs.Patterns.{seen, read, written-width}
 use Rattle.lines.proofs.Verbs.{verb-sound, verb-width, verb-begins, verbAt, verb-fits, verb-told, only-told, only-reads}
 
 -- every line of the grammar is read as what it asks for

@@ -14,7 +14,7 @@ use Rattle.lines.specs.declared.Number.{Number}
 use Rattle.lines.specs.declared.Number.the-variants.{Value, Bad}
 use Rattle.lines.specs.Show.{shown}
 use Rattle.lines.specs.Grammar.{Part, literal, value, count, written}
-use Rattle.lines.specs.Line.{startsWith, digit, digits, numberAt, andThen, Read, Got, Not, readBy}
+use Rattle.lines.specs.Line.{startsWith, digit, digits, numberAt, andThen, Got, Not, readBy}
 use Rattle.lines.proofs.Line.{drop-end}
 use Rattle.lines.proofs.Decimal.{shown-32}
 use Rattle.lines.proofs.Values.{number-seen, number-read, starts-split, starts-self, drop-past}

@@ -3,7 +3,7 @@ use Prim.Native.Nat.{ℕ, zero, suc, _+_, _≤_, _<_}
 use native.Mathlib.Omega.{arith}
 use native.Mathlib.Nat.{add-zero}
 use native.Mathlib.Numerals.{add-one}
-use mathlib.Core.Path.{_≡_, refl, sym, ap, _∙_}
+use mathlib.Core.Path.{_≡_, refl, sym, _∙_}
 use mathlib.Core.Bool.{Bool, true, false, cond, false≢true}
 use mathlib.Core.List.{List, [], _∷_, _++_}
 use borrow.Author.Tests.{ltb-true, ltb-false, ne-eqb}
@@ -14,7 +14,7 @@ use Rattle.model.proofs.Sets.{by-cases}
 use Rattle.lines.specs.declared.Number.the-variants.{Value, Bad}
 use Rattle.lines.specs.declared.Parsed.the-variants.{Malformed}
 use Rattle.lines.specs.Bytes.{bytes}
-use Rattle.lines.specs.Grammar.{Part, literal, value, count, Form, Asks, applied, forms, formOf, meaning}
+use Rattle.lines.specs.Grammar.{Part, value, count, Form, Asks, applied, forms, formOf, meaning}
 use Rattle.lines.specs.Line.{startsWith, andThen, Read, Got, Not, readBy, valuesBy, orElse, parseLine}
 use Rattle.lines.specs.Reader.{fieldAt, keyText, keyAt, literals, keysParts, partsOf, most, Blank, FilledAs, Only}
 use Rattle.lines.proofs.Line.{drop-next, drop-end, starts-length}
@@ -107,12 +107,14 @@ blank = (refl, λ i. zeros most i)
     zeros (suc n) (suc i) = zeros n i
 
 -- past the last verb there is no line that begins with do=
-pub past-not : (v : ℕ) (s vs : List ℕ) → None (length forms) v → startsWith (bytes "do=") s ≡ true → FilledAs (valuesBy (formOf v .pattern) s) false vs
+pub past-not : (v : ℕ) (s vs : List ℕ) → None (length forms) v → startsWith (bytes "do=") s ≡ true
+    → FilledAs (valuesBy (formOf v .pattern) s) false vs
 unfolding readBy
 past-not v s vs h e = filled-not vs (rw (past v h) (rw (ne-eqb 0 (length s) (λ z. omega (arith, starts-length (bytes "do=") s e)))))
 
 -- a form asks for the same by values that are the same
-same-applied : (n : ℕ) (f : Asks n) (k : ℕ) (out vs : List ℕ) → ((i : ℕ) → getD out i 0 ≡ getD vs i 0) → applied n f k out ≡ applied n f k vs
+same-applied : (n : ℕ) (f : Asks n) (k : ℕ) (out vs : List ℕ) → ((i : ℕ) → getD out i 0 ≡ getD vs i 0)
+    → applied n f k out ≡ applied n f k vs
 same-applied zero x k out vs h = refl
 same-applied (suc n) f k out vs h = rw (h k) (same-applied n (f (getD vs k 0)) (suc k) out vs h)
 

@@ -3,21 +3,21 @@
 use Prim.Native.Nat.{ℕ, zero, suc, _+_, _-_, _*_, _%_, _≤_, _<_}
 use native.Mathlib.Omega.{arith}
 use mathlib.Core.Path.{_≡_, refl, sym, ap, _∙_}
-use mathlib.Core.Bool.{Bool, true, false, _&&_, false≢true}
-use mathlib.Core.List.{List, [], _∷_, _++_}
+use mathlib.Core.Bool.{Bool, true, _&&_}
+use mathlib.Core.List.{List, [], _∷_}
 use lib.Arith.{lt-of-le-ne}
 use borrow.Author.Tests.{leb-true, ltb-true, eqb-true, eqb-false}
-use lib.ListN.{length, drop, getD, List·getD-eq-default}
+use lib.ListN.{length, getD, List·getD-eq-default}
 use lib.Dec.{eqb, leb, ltb}
 use Rattle.model.specs.Sets.{all, allBelow}
-use Rattle.model.proofs.Sets.{by-cases, fst, snd, both}
+use Rattle.model.proofs.Sets.{by-cases, fst, snd}
 use Rattle.lines.specs.declared.Parsed.{Parsed}
 use Rattle.lines.specs.declared.Parsed.the-variants.{Malformed}
 use Rattle.lines.specs.Bytes.{bytes}
 use Rattle.lines.specs.Grammar.{Part, Form, noForm, forms, formOf, written, meaning}
 use Rattle.lines.specs.Line.{startsWith, Read, Got, Not, valuesBy, orElse, parseBy, parseLine}
 use Rattle.lines.specs.Reader.{Only}
-use Rattle.lines.proofs.Patterns.{Seen, seen, sound, prefix, prefix-at, starts-written, widest}
+use Rattle.lines.proofs.Patterns.{seen, sound, prefix, prefix-at, starts-written, widest}
 
 -- a fact of every element of a list is one of the element at a place
 at-place : {A : Type 0} (p : A → Bool) (l : List A) (d : A) → all p l ≡ true → p d ≡ true → (i : ℕ) → p (getD l i d) ≡ true

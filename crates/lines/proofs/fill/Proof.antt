@@ -1,3 +1,4 @@
+-- Where the loop stands is `At` (proofs/Turns): the values of the keys so far are read, and those of the rest are left.
 use borrow.Author.Needs.{needs}
 use borrow.Author.Tests.{not-true, not-false}
 use native.Mathlib.Omega.{arith}
@@ -19,14 +20,21 @@ starts-requires : tie.Need-starts-requires Inv-loop μ-loop
 starts-requires c κs = search needs
 
 returns : tie.Need-returns Inv-loop μ-loop
-returns c = word-other (c .before .before .before .before .before .args .word .now) (c .before .before .before .before .before .args .keys .now) (c .before .before .before .before .before .args .s .now) _ (c .before .before .before .before .before .pre .2) (sym (c .before .starts .ensures) ∙ not-true _ (c .if1 .taken))
+returns c =
+    let e = c .before .before .before .before .before in
+    word-other (e .args .word .now) (e .args .keys .now) (e .args .s .now) _ (e .pre .2)
+    (sym (c .before .starts .ensures) ∙ not-true _ (c .if1 .taken))
 
 add-p : tie.Need-add-p Inv-loop μ-loop
-add-p c = let h = key-fits (c .before .before .before .before .before .args .word .now) (c .before .before .before .before .before .args .s .now) 3 (sym (c .before .starts .ensures) ∙ not-false _ (c .if1 .left)) in search needs
+add-p c =
+    let e = c .before .before .before .before .before in
+    let h = key-fits (e .args .word .now) (e .args .s .now) 3 (sym (c .before .starts .ensures) ∙ not-false _ (c .if1 .left)) in
+    search needs
 
 loop-holds : tie.Need-loop-holds Inv-loop μ-loop
 loop-holds c =
-    word-same (c .before .before .before .before .before .args .word .now) (c .before .before .before .before .before .args .keys .now) (c .before .before .before .before .before .args .s .now) _ (c .before .before .before .before .before .pre .2) (c .before .before .before .before .before .pre .0) (c .before .before .before .before .before .pre .1)
+    let e = c .before .before .before .before .before in
+    word-same (e .args .word .now) (e .args .keys .now) (e .args .s .now) _ (e .pre .2) (e .pre .0) (e .pre .1)
     (sym (c .before .starts .ensures) ∙ not-false _ (c .if1 .left))
 
 shared-slice-read-key-value : tie.Need-shared-slice-read-key-value Inv-loop μ-loop
@@ -42,7 +50,9 @@ enum-told : tie.Need-enum-told Inv-loop μ-loop
 enum-told c = search needs
 
 returns-2 : tie.Need-returns-2 Inv-loop μ-loop
-returns-2 c = key-stop (c .before .before .before .before .before .loop .inv) (omega arith) (sym (c .before .before .key-value .ensures) ∙ c .enum-told .given .1)
+returns-2 c =
+    key-stop (c .before .before .before .before .before .loop .inv) (omega arith)
+    (sym (c .before .before .key-value .ensures) ∙ c .enum-told .given .1)
 
 mul-values : tie.Need-mul-values Inv-loop μ-loop
 mul-values c = search needs
@@ -57,7 +67,9 @@ loop-less : tie.Need-loop-less Inv-loop μ-loop
 loop-less c = search needs
 
 loop-again : tie.Need-loop-again Inv-loop μ-loop
-loop-again c = key-turn (c .before .before .before .before .before .before .loop .inv) (omega arith) _ _ (sym (c .before .before .before .key-value .ensures) ∙ c .before .v .given .1)
+loop-again c =
+    key-turn (c .before .before .before .before .before .before .loop .inv) (omega arith) _ _
+    (sym (c .before .before .before .key-value .ensures) ∙ c .before .v .given .1)
 
 returns-3 : tie.Need-returns-3 Inv-loop μ-loop
 returns-3 c = filled (c .before .loop .inv) (omega arith)

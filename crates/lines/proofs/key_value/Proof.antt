@@ -1,3 +1,4 @@
+-- In each arm the key's bytes are those of its letter, by computation.
 use borrow.Author.Tests.{ne-eqb}
 use Rattle.lines.specs.Reader.{keyAt}
 use borrow.Author.Needs.{needs}
@@ -63,7 +64,16 @@ returns-5 c = c .field5 .ensures ∙ rw (c .before .before .match .keys5) refl
 
 returns-6 : tie.Need-returns-6
 unfolding keyAt
-returns-6 c = let m = c .before .before .match .rest in c .field6 .ensures ∙ rw (ne-eqb _ 98 (m .0 .0 .0 .0 .1), ne-eqb _ 119 (m .0 .0 .0 .1), ne-eqb _ 116 (m .0 .0 .1), ne-eqb _ 111 (m .0 .1), ne-eqb _ 114 (m .1)) refl
+returns-6 c =
+    let m = c .before .before .match .rest in
+    c .field6 .ensures
+    ∙ rw (
+      ne-eqb _ 98 (m .0 .0 .0 .0 .1),
+      ne-eqb _ 119 (m .0 .0 .0 .1),
+      ne-eqb _ 116 (m .0 .0 .1),
+      ne-eqb _ 111 (m .0 .1),
+      ne-eqb _ 114 (m .1),
+    ) refl
 
 pub key-value-spec : {M : Type 1} → statement M
 key-value-spec =

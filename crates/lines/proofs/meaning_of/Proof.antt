@@ -1,3 +1,4 @@
+-- In each arm the values go where the grammar's form hands them, by computation.
 use borrow.Author.Needs.{needs}
 use mathlib.Core.Path.{refl, _∙_}
 use Rattle.lines.specs.Grammar.{meaning}

@@ -1,3 +1,4 @@
+-- A line with no do= is malformed; the one verb that can have it decides the rest.
 use borrow.Author.Needs.{needs}
 use borrow.Author.Tests.{not-true, not-false}
 use mathlib.Core.Path.{sym, _∙_}
@@ -13,7 +14,9 @@ starts-requires : tie.Need-starts-requires
 starts-requires c κs = search needs
 
 returns : tie.Need-returns
-returns c = sym (other-malformed (c .before .before .before .before .args .line .now) (sym (c .before .starts .ensures) ∙ not-true _ (c .if1 .taken)))
+returns c =
+    sym (other-malformed (c .before .before .before .before .args .line .now)
+    (sym (c .before .starts .ensures) ∙ not-true _ (c .if1 .taken)))
 
 verb-at-requires : tie.Need-verb-at-requires
 verb-at-requires c κs = search needs
@@ -26,8 +29,9 @@ meaning-of-requires c κs = search needs
 
 returns-2 : tie.Need-returns-2
 returns-2 c =
-    c .meaning-of .ensures ∙ parse-got (c .before .before .before .before .before .before .before .before .before .before .args .line .now) _ _
-    (c .before .before .before .read-by .last .0) (c .before .before .before .before .before .verb-at .ensures) (c .before .before .before .read-by .ensures) (c .before .before .if2 .taken)
+    let r = c .before .before .before in
+    c .meaning-of .ensures ∙ parse-got (r .before .before .before .before .before .before .before .args .line .now) _ _
+    (r .read-by .last .0) (r .before .before .verb-at .ensures) (r .read-by .ensures) (c .before .before .if2 .taken)
 
 returns-3 : tie.Need-returns-3
 returns-3 c =

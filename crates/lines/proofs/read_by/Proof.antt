@@ -1,3 +1,4 @@
+-- In each arm the pattern of the word and the keys is the one that the grammar shows for the verb, by computation.
 use borrow.Author.Needs.{needs}
 use Rattle.lines.proofs.Turns.{past-not}
 use Rattle.lines.proofs.read_by.Statement.{statement}

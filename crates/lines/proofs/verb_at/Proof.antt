@@ -1,3 +1,4 @@
+-- The table is `verbs` (proofs/Verbs), by which bytes 5 and 9 tell the verb.
 use borrow.Author.Needs.{needs}
 use native.Mathlib.Omega.{arith}
 use Prim.Native.Nat.{_+_, _*_, _%_}
