@@ -1,6 +1,6 @@
 -- What holds of every verb, computed over the list of forms: a form more adds no line here. Two bytes of a line tell its verb, so that the
 -- reader tries one form only.
-use Prim.Native.Nat.{ℕ, zero, suc, _+_, _-_, _*_, _%_, _≤_, _<_}
+use Prim.Native.Nat.{ℕ, zero, suc, _+_, _*_, _%_, _≤_, _<_}
 use native.Mathlib.Omega.{arith}
 use mathlib.Core.Path.{_≡_, refl, sym, ap, _∙_}
 use mathlib.Core.Bool.{Bool, true, _&&_}
@@ -56,20 +56,16 @@ unfolding begins
 verb-begins v ws h = starts-written (bytes "do=") (formOf v .pattern) ws (below (length forms) begins all-begin v h)
 
 -- ---- bytes 5 and 9 of a line tell its verb
--- the verb by a number below 32, as the code has it: a letter, a for the first
+-- the verb by a number below 32, as the code has it: @ for the first, a for the next
 abbrev pub verbs : List ℕ
-verbs = bytes "agaaaafaadaaaaaaaaaaaeaabacaaaaa"
+verbs = bytes "@f@@@@e@@c@@@@@@@@@@@d@@a@b@@@@@"
 
 abbrev pub verbAt : List ℕ → ℕ
-verbAt s = getD verbs ((2 * getD s 5 0 + getD s 9 0) % 32) 0 - 97
+verbAt s = getD verbs ((2 * getD s 5 0 + getD s 9 0) % 32) 0 % 32
 
-pub verb-fits : (i : ℕ) → getD verbs i 0 - 97 < length forms
+pub verb-fits : (i : ℕ) → getD verbs i 0 % 32 < length forms
 unfolding all
-verb-fits i = ltb-true _ (length forms) (at-place (λ b. ltb (b - 97) (length forms)) verbs 0 refl refl i)
-
-pub verb-letter : (i : ℕ) → i < 32 → 97 ≤ getD verbs i 0
-unfolding allBelow
-verb-letter i h = leb-true 97 _ (below 32 (λ j. leb 97 (getD verbs j 0)) refl i h)
+verb-fits i = ltb-true _ (length forms) (at-place (λ b. ltb (b % 32) (length forms)) verbs 0 refl refl i)
 
 tells : ℕ → Bool
 tells v = leb 10 (length (prefix (formOf v .pattern))) && eqb (verbAt (prefix (formOf v .pattern))) v

@@ -248,8 +248,8 @@ fn meaning_of(verb: usize, values: &[u32; MOST]) -> Parsed
     }
 }
 
-// A verb for each number that two bytes of its line give: a stands for the first of the grammar's list.
-const VERBS: [u8; 32] = *b"agaaaafaadaaaaaaaaaaaeaabacaaaaa";
+// A verb for each number that two bytes of its line give: @ is the first of the grammar's list, a the next.
+const VERBS: [u8; 32] = *b"@f@@@@e@@c@@@@@@@@@@@d@@a@b@@@@@";
 
 // The byte at a place, and 0 past the end.
 fn byte(s: &[u8], at: usize) -> u8
@@ -268,7 +268,7 @@ fn verb_at(s: &[u8]) -> usize
     let a = byte(s, 5) as usize;
     let b = byte(s, 9) as usize;
     let h = (2 * a + b) % 32;
-    (VERBS[h] - b'a') as usize
+    (VERBS[h] % 32) as usize
 }
 
 // What a line asks for; the line comes without its byte 10.

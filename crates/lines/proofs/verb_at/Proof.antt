@@ -1,8 +1,6 @@
 -- The table is `verbs` (proofs/Verbs), by which bytes 5 and 9 tell the verb.
 use borrow.Author.Needs.{needs}
-use native.Mathlib.Omega.{arith}
-use Prim.Native.Nat.{_+_, _*_, _%_}
-use Rattle.lines.proofs.Verbs.{verb-fits, verb-letter, only-told}
+use Rattle.lines.proofs.Verbs.{only-told}
 use Rattle.lines.proofs.verb_at.Statement.{statement}
 use Rattle.lines.proofs.verb_at.Tie as tie
 
@@ -27,11 +25,8 @@ add-h c = search needs
 array-read-result : tie.Need-array-read-result
 array-read-result c = search needs
 
-sub-result : tie.Need-sub-result
-sub-result c = let h = verb-letter ((2 * c .before .byte .result + c .byte2 .result) % 32) (omega arith) in search needs
-
 cast-result : tie.Need-cast-result
-cast-result c = let h = verb-fits ((2 * c .before .byte .result + c .byte2 .result) % 32) in search needs
+cast-result c = search needs
 
 returns : tie.Need-returns
 returns c = rw (c .before .byte .ensures, c .byte2 .ensures) (only-told (c .before .before .before .args .s .now))
@@ -47,6 +42,5 @@ verb-at-spec =
     mul-h
     add-h
     array-read-result
-    sub-result
     cast-result
     returns)
