@@ -1,14 +1,15 @@
 -- A run of the program: each turn of the reader, and that the parts in which the input is taken don't matter.
-use mathlib.Core.Path.{_≡_, refl, sym, ap, ap₂, _∙_}
-use mathlib.Core.Bool.{true, false, _&&_, true≢false, and-false}
+use mathlib.Core.Path.{_≡_, refl, sym, ap, ap₂, _∙_, subst}
+use mathlib.Core.Bool.{true, false, cond, and-false}
 use mathlib.Core.List.{List, [], _∷_, _++_, append-assoc, append-nil}
 use Prim.Native.Nat.{ℕ, suc, _+_, _-_, _≤_, _<_}
 use native.Mathlib.Omega.{arith}
 use native.Mathlib.Numerals.{add-one}
-use borrow.Author.Tests.{le-ltb, ltb-true, ltb-false, leb-true, le-leb, lt-leb}
-use lib.ListN.{length, take, drop, length-drop, take-append-drop}
-use lib.Seq.{take-all, take-append-add, length-take-le}
-use lib.Dec.{eqb, ltb, leb}
+use native.Mathlib.Nat.{add-zero}
+use borrow.Author.Tests.{lt-ltb, le-ltb, ltb-true, leb-true, le-leb, lt-leb}
+use lib.ListN.{length, take, drop, length-append, length-drop, take-append-drop, drop-of-length-le}
+use lib.Seq.{take-all, take-add, drop-drop, drop-length}
+use lib.Dec.{eqb, leb}
 use Rattle.model.specs.Agreement.{Units}
 use Rattle.model.proofs.Sets.{by-cases, both}
 use Rattle.lines.specs.declared.Parsed.{Parsed}
@@ -21,7 +22,7 @@ use Rattle.lines.proofs.Cuts.{lines-open, open-all}
 use Rattle.commands.specs.declared.reply.Reply.{Reply}
 use Rattle.commands.specs.Output.{outputLine, lastOutput, room, Puts, malformedReply, lentBuffer, replyOf, viaOf, unitsAfter}
 use Rattle.commands.specs.Program.{outputFrom, outputOf}
-use Rattle.commands.specs.Session.{Replies, Session, session, freshSession, asksIn, sessionAfter, pieceOutput, sessionAfterAll, piecesOutput, closing, partsOutput, pieceOf, Runs, Takes, lastLines, Consumes, closable, Closes}
+use Rattle.commands.specs.Session.{Replies, Session, session, freshSession, asksIn, sessionAfter, pieceOutput, sessionAfterAll, piecesOutput, closing, partsOutput, pieceOf, Runs, Takes, lastLines, goesOn, takenFrom, takenOf, pieceBytes, bytesOf, Consumes, closable, Closes}
 use Rattle.commands.proofs.Written.{wrote-then, wrote-none, wrote-is}
 use Rattle.commands.proofs.Program.{chunks-same}
 
@@ -105,10 +106,7 @@ module _ (n : ℕ) (u : Units) (buf buf′ : List ℕ) (p : Partial) (chunk out 
       }
 
 -- ---- the pieces of a chunk
--- whatever comes after l begins a line of its own
-abbrev pub Closed : List ℕ → Type 0
-Closed l = (t : List ℕ) → linesOf (l ++ t) ≡ linesOf l ++ linesOf t
-
+-- the first piece of a chunk is what `feed` takes of it
 first-line : (l s t : List ℕ) → length (beforeNewline s) < length s
     → linesFrom l (take (suc (length (beforeNewline s))) s ++ t) ≡ line (l ++ beforeNewline s) true ∷ linesOf t
 unfolding linesFrom beforeNewline
@@ -119,107 +117,206 @@ first-line l (b ∷ s) t h =
     let k : suc (length (beforeNewline s)) < suc (length s) = rw q at h in
     rw q (first-line (l ++ (b ∷ [])) s t (omega arith) ∙ ap (λ (m : List ℕ). line m true ∷ linesOf t) (append-assoc l (b ∷ []) (beforeNewline s))))
 
--- the part that `feed` takes is one line, and one that ended closes it
 piece-ended : (s : List ℕ) → endsIn s ≡ true → (t : List ℕ) → linesOf (take (usedIn s) s ++ t) ≡ pieceOf s ∷ linesOf t
 piece-ended s e t = rw (e, add-one (length (beforeNewline s))) (first-line [] s t (ltb-true _ _ e))
 
-piece-lines : (s : List ℕ) → 0 < length s → linesOf (take (usedIn s) s) ≡ pieceOf s ∷ []
-unfolding linesFrom
-piece-lines [] h = absurd (omega arith)
-piece-lines (b ∷ s) h =
-    by-cases (endsIn (b ∷ s)) (λ q. ap linesOf (sym (append-nil (take (usedIn (b ∷ s)) (b ∷ s)))) ∙ piece-ended (b ∷ s) q [])
-    (λ q.
-    let a = open-all (b ∷ s) q in
-    let n = ltb-false _ _ q in
-    let w : take (usedIn (b ∷ s)) (b ∷ s) ≡ b ∷ s = rw q (take-all _ _ n) in
-    ap linesOf w ∙ ap linesOf (sym (append-nil (b ∷ s))) ∙ lines-open [] (b ∷ s) [] q ∙ rw (q, a) refl)
+open-used : (s : List ℕ) → endsIn s ≡ false → usedIn s ≡ length s
+open-used s q = rw q (ap length (open-all s q))
 
-piece-closed : (s : List ℕ) → endsIn s ≡ true → Closed (take (usedIn s) s)
-unfolding linesFrom
-piece-closed s e t =
-    let one : linesOf (take (usedIn s) s) ≡ pieceOf s ∷ [] = ap linesOf (sym (append-nil (take (usedIn s) s))) ∙ piece-ended s e [] in
-    piece-ended s e t ∙ ap (λ (xs : List Line). xs ++ linesOf t) (sym one)
-
--- ---- the loop over a chunk
-take-add : (i k : ℕ) (l : List ℕ) → i ≤ length l → take (i + k) l ≡ take i l ++ take k (drop i l)
-take-add i k l h =
-    let n : length (take i l) ≡ i = length-take-le i l h in
-    let e : take (length (take i l) + k) (take i l ++ drop i l) ≡ take i l ++ take k (drop i l) = take-append-add (take i l) (drop i l) k in
-    rw (n, take-append-drop i l) at e
-
-used-some : (s : List ℕ) → 0 < length s → (0 < usedIn s) × (usedIn s ≤ length s)
+pub used-some : (s : List ℕ) → 0 < length s → (0 < usedIn s) × (usedIn s ≤ length s)
 used-some s h =
     by-cases (endsIn s) (λ q. let k = ltb-true (length (beforeNewline s)) (length s) q in rw q (omega arith, omega (arith, k)))
-    (λ q. let a : length (beforeNewline s) ≡ length s = ap length (open-all s q) in rw q (omega (arith, a), omega (arith, a)))
+    (λ q. let a = open-used s q in (omega arith, omega arith))
 
--- how far the loop is: the bytes before i were taken as if they had been the chunk
+-- and the other pieces are those of what it leaves
+pub lines-next : (s : List ℕ) → 0 < length s → linesOf s ≡ pieceOf s ∷ linesOf (drop (usedIn s) s)
+unfolding linesFrom
+lines-next [] h = absurd (omega arith)
+lines-next (b ∷ s) h =
+    by-cases (endsIn (b ∷ s))
+    (λ q. ap linesOf (sym (take-append-drop (usedIn (b ∷ s)) (b ∷ s))) ∙ piece-ended (b ∷ s) q (drop (usedIn (b ∷ s)) (b ∷ s)))
+    (λ q.
+    ap linesOf (sym (append-nil (b ∷ s))) ∙ lines-open [] (b ∷ s) [] q
+    ∙ ap₂ (λ (x : Line) (l : List ℕ). x ∷ linesOf l) (ap₂ line (sym (open-all (b ∷ s) q)) (sym q))
+    (sym (ap (λ (k : ℕ). drop k (b ∷ s)) (open-used (b ∷ s) q) ∙ drop-length (b ∷ s))))
+
+-- a chunk cut between two of its pieces: those before and those after are the pieces of the two parts
+pub record Cut (chunk : List ℕ) (n : ℕ) (xs ys : List Line) : Type 0 where
+  pub within : n ≤ length chunk
+  pub before : linesOf (take n chunk) ≡ xs
+  pub after : linesOf (drop n chunk) ≡ ys
+
+pub cut : (chunk : List ℕ) (xs ys : List Line) → linesOf chunk ≡ xs ++ ys → Cut chunk (bytesOf xs) xs ys
+unfolding linesFrom bytesOf
+cut chunk [] ys e = record { within = omega arith; before = refl; after = e }
+cut [] (x ∷ xs) ys e = let z : _≡_ {A = ℕ} 0 1 = cc in absurd (omega arith)
+cut (b ∷ c) (x ∷ xs) ys e =
+    let chunk : List ℕ = b ∷ c in
+    let used : ℕ = usedIn chunk in
+    let next = lines-next chunk (omega arith) in
+    let px : pieceOf chunk ≡ x = cc in
+    let rest : linesOf (drop used chunk) ≡ xs ++ ys = cc in
+    let k = cut (drop used chunk) xs ys rest in
+    let some = used-some chunk (omega arith) in
+    let left = length-drop used chunk in
+    subst (λ (y : Line). Cut chunk (pieceBytes y + bytesOf xs) (y ∷ xs) ys) px (record {
+      within = omega (arith, k .within);
+      before = by-cases (endsIn chunk)
+          (λ q. ap linesOf (take-add used (bytesOf xs) chunk) ∙ piece-ended chunk q (take (bytesOf xs) (drop used chunk))
+          ∙ ap (λ (zs : List Line). pieceOf chunk ∷ zs) (k .before))
+          (λ q.
+          let o = open-used chunk q in
+          ap linesOf (take-all (used + bytesOf xs) chunk (omega arith)) ∙ next
+          ∙ ap (λ (zs : List Line). pieceOf chunk ∷ zs) (ap linesOf (sym (take-all (bytesOf xs) (drop used chunk) (omega arith))) ∙ k .before));
+      after = ap linesOf (sym (drop-drop (bytesOf xs) used chunk)) ∙ k .after;
+    })
+
+-- ---- the pieces that are taken
+-- those that are left
+untaken : ℕ → ℕ → Session → List Line → List Line
+untaken size at s [] = []
+untaken size at s (x ∷ xs) = cond (goesOn size at s) (untaken size (at + length (pieceOutput s x)) (sessionAfter s x) xs) (x ∷ xs)
+
+taken-split : (size at : ℕ) (s : Session) (xs : List Line) → xs ≡ takenFrom size at s xs ++ untaken size at s xs
+unfolding takenFrom untaken
+taken-split size at s [] = refl
+taken-split size at s (x ∷ xs) =
+    by-cases (goesOn size at s)
+    (λ q. rw q (ap (λ (ys : List Line). x ∷ ys) (taken-split size (at + length (pieceOutput s x)) (sessionAfter s x) xs))) (λ q. rw q)
+
+-- a piece is left only where it doesn't go on
+taken-stops : (size at : ℕ) (s : Session) (xs : List Line) → 0 < length (untaken size at s xs)
+    → goesOn size (at + length (piecesOutput s (takenFrom size at s xs))) (sessionAfterAll s (takenFrom size at s xs)) ≡ false
+unfolding takenFrom untaken piecesOutput sessionAfterAll
+taken-stops size at s [] h = absurd (omega arith)
+taken-stops size at s (x ∷ xs) h =
+    by-cases (goesOn size at s)
+    (λ q.
+    let o : List ℕ = pieceOutput s x in
+    let s′ : Session = sessionAfter s x in
+    let ts : List Line = takenFrom size (at + length o) s′ xs in
+    let r = taken-stops size (at + length o) s′ xs (rw q at h) in
+    let e : at + length (o ++ piecesOutput s′ ts) ≡ at + length o + length (piecesOutput s′ ts) = omega (arith, length-append o (piecesOutput s′ ts)) in
+    rw q (ap (λ (k : ℕ). goesOn size k (sessionAfterAll s′ ts)) e ∙ r))
+    (λ q. rw q (ap (λ (k : ℕ). goesOn size k s) (add-zero at) ∙ q))
+
+-- what `consume` takes, as if it had been the chunk
+module _ {s s′ : Session} {chunk out out′ : List ℕ} {used written : ℕ} (c : Consumes s chunk out used written s′ out′) where
+  cut-there : Cut chunk used (takenOf (length out) s chunk) (untaken (length out) 0 s (linesOf chunk))
+  cut-there = rw (c .part) (cut chunk _ _ (taken-split (length out) 0 s (linesOf chunk)))
+
+  pub consumes-part : used ≤ length chunk
+  consumes-part = cut-there .within
+
+  pub consumes-session : s′ ≡ sessionAfterAll s (linesOf (take used chunk))
+  consumes-session = c .session ∙ ap (sessionAfterAll s) (sym (cut-there .before))
+
+  pub consumes-output : Wrote out 0 (piecesOutput s (linesOf (take used chunk))) written out′
+  consumes-output = wrote-is (ap (piecesOutput s) (sym (cut-there .before))) (c .output)
+
+  -- the part taken ends between two pieces
+  pub consumes-lines : linesOf chunk ≡ linesOf (take used chunk) ++ linesOf (drop used chunk)
+  consumes-lines =
+      taken-split (length out) 0 s (linesOf chunk)
+      ∙ ap₂ (λ (xs ys : List Line). xs ++ ys) (sym (cut-there .before)) (sym (cut-there .after))
+
+  -- and some is left only where the output has no room for a line, or a run's last line was counted
+  pub consumes-rest : used < length chunk → goesOn (length out) written s′ ≡ false
+  consumes-rest h =
+      let l = length-drop used chunk in
+      let n = ap length (lines-next (drop used chunk) (omega arith)) in
+      let m = ap length (cut-there .after) in
+      ap₂ (goesOn (length out)) (c .output .place) (c .session) ∙ taken-stops (length out) 0 s (linesOf chunk) (omega arith)
+
+-- ---- the loop over a chunk
+bytes-snoc : (xs : List Line) (x : Line) → bytesOf (xs ++ (x ∷ [])) ≡ bytesOf xs + pieceBytes x
+unfolding bytesOf
+bytes-snoc [] x = omega arith
+bytes-snoc (y ∷ xs) x = omega (arith, bytes-snoc xs x)
+
+-- how far the loop is: these pieces are done, and what is taken of the chunk are these and what is taken of the rest
 pub record Going (s₀ s : Session) (chunk out₀ out : List ℕ) (i at : ℕ) : Type 0 where
+  pub done : List Line
+  pub bytes : i ≡ bytesOf done
   pub part : i ≤ length chunk
-  pub closed : i < length chunk → Closed (take i chunk)
-  pub session : s ≡ sessionAfterAll s₀ (linesOf (take i chunk))
-  pub output : Wrote out₀ 0 (piecesOutput s₀ (linesOf (take i chunk))) at out
-  pub within : at ≤ length out
+  pub taken : takenOf (length out₀) s₀ chunk ≡ done ++ takenFrom (length out₀) at s (linesOf (drop i chunk))
+  pub session : s ≡ sessionAfterAll s₀ done
+  pub output : Wrote out₀ 0 (piecesOutput s₀ done) at out
+  pub within : at ≤ length out₀
 
 pub going-start : (s : Session) (chunk out : List ℕ) → Going s s chunk out out 0 0
-unfolding linesFrom sessionAfterAll piecesOutput
+unfolding bytesOf sessionAfterAll piecesOutput
 going-start s chunk out = record {
+  done = [];
+  bytes = refl;
   part = omega arith;
-  closed = λ h t. refl;
+  taken = refl;
   session = refl;
   output = wrote-none out 0;
   within = omega arith;
 }
 
-module _ (s₀ s : Session) (chunk out₀ out : List ℕ) (i at : ℕ) (g : Going s₀ s chunk out₀ out i at) where
-  pub going-next : i < length chunk → room (length out) at ≡ true → (used r : ℕ) (s′ : Session) (out′ : List ℕ) → length out′ ≡ length out
+module _ (s₀ s : Session) (chunk out₀ out : List ℕ) (i at : ℕ) (g : Going s₀ s chunk out₀ out i at) (n : length out ≡ length out₀) where
+  pub going-next : i < length chunk → room (length out) at ≡ true → s .lines < lastLines → (used r : ℕ) (s′ : Session) (out′ : List ℕ)
       → Takes s (take (length chunk - i) (drop i chunk)) out at used r s′ out′ → (0 < used) × Going s₀ s′ chunk out₀ out′ (i + used) r
-  unfolding sessionAfterAll piecesOutput
-  going-next h e used r s′ out′ n t =
+  unfolding takenFrom bytesOf sessionAfterAll piecesOutput
+  going-next h e k used r s′ out′ t =
       let d : List ℕ = drop i chunk in
       let nd = length-drop i chunk in
       let pe : take (length chunk - i) d ≡ d = take-all (length chunk - i) d (omega (arith, nd)) in
       let ud : used ≡ usedIn d = t .part ∙ ap usedIn pe in
       let b = used-some d (omega arith) in
       let x : Line = pieceOf d in
-      let xs : List Line = linesOf (take i chunk) in
-      let split : take (i + used) chunk ≡ take i chunk ++ take (usedIn d) d = ap (λ (k : ℕ). take (i + k) chunk) ud ∙ take-add i (usedIn d) chunk (g .part) in
-      let cut : linesOf (take (i + used) chunk) ≡ xs ++ (x ∷ []) =
-      ap linesOf split ∙ g .closed h (take (usedIn d) d) ∙ ap (λ (ys : List Line). xs ++ ys) (piece-lines d (omega arith)) in
       let px : pieceOf (take (length chunk - i) d) ≡ x = ap pieceOf pe in
-      let room-for = leb-true (at + 128) (length out) e in (
+      let room-for = leb-true (at + 128) (length out) e in
+      let e₀ : room (length out₀) at ≡ true = rw n at e in
+      let goes : goesOn (length out₀) at s ≡ true = both e₀ (lt-ltb (s .lines) lastLines k) in
+      let xs : List Line = g .done in
+      let w : Wrote out at (pieceOutput s x) r out′ = wrote-is (ap (pieceOutput s) px) (t .output) in
+      let left : linesOf (drop (usedIn d) d) ≡ linesOf (drop (i + used) chunk) =
+      ap linesOf (drop-drop (usedIn d) i chunk ∙ ap (λ (m : ℕ). drop (i + m) chunk) (sym ud)) in
+      let more : takenFrom (length out₀) at s (linesOf d) ≡ x ∷ takenFrom (length out₀) r s′ (linesOf (drop (i + used) chunk)) =
+      ap (takenFrom (length out₀) at s) (lines-next d (omega arith)) ∙ rw goes (ap (λ (ys : List Line). x ∷ ys)
+      (ap (λ (m : ℕ). takenFrom (length out₀) m (sessionAfter s x) (linesOf (drop (usedIn d) d))) (sym (w .place))
+      ∙ ap₂ (takenFrom (length out₀) r) (sym (t .session ∙ ap (sessionAfter s) px)) left)) in (
         omega arith,
         record {
+          done = xs ++ (x ∷ []);
+          bytes = omega (arith, g .bytes, bytes-snoc xs x, ud);
           part = omega arith;
-          closed = λ k t′.
-              by-cases (endsIn d)
-              (λ q. rw split (rw (append-assoc (take i chunk) (take (usedIn d) d) t′)
-              (g .closed h (take (usedIn d) d ++ t′) ∙ ap (λ (ys : List Line). xs ++ ys) (piece-closed d q t′)
-              ∙ sym (append-assoc xs (linesOf (take (usedIn d) d)) (linesOf t′)) ∙ ap (λ (ys : List Line). ys ++ linesOf t′) (sym (g .closed h (take (usedIn d) d))))))
-              (λ q. absurd (omega (arith, open-used d q)));
-          session = t .session ∙ ap₂ sessionAfter (g .session) px ∙ sym (ap (sessionAfterAll s₀) cut ∙ after-append s₀ xs (x ∷ []));
-          output = wrote-is (ap₂ (λ (q : Session) (y : Line). piecesOutput s₀ xs ++ pieceOutput q y) (g .session) px
+          taken = g .taken ∙ ap (λ (ys : List Line). xs ++ ys) more ∙ sym (append-assoc xs (x ∷ []) _);
+          session = t .session ∙ ap₂ sessionAfter (g .session) px ∙ sym (after-append s₀ xs (x ∷ []));
+          output = wrote-is (ap (λ (q : Session). piecesOutput s₀ xs ++ pieceOutput q x) (g .session)
               ∙ ap (λ (l : List ℕ). piecesOutput s₀ xs ++ l) (sym (append-nil (pieceOutput (sessionAfterAll s₀ xs) x)))
-              ∙ sym (ap (piecesOutput s₀) cut ∙ output-append s₀ xs (x ∷ []))) (wrote-then (g .output) (t .output));
+              ∙ sym (output-append s₀ xs (x ∷ []))) (wrote-then (g .output) w);
           within = omega (arith, t .short);
         },
       )
-    where
-      open-used : (d : List ℕ) → endsIn d ≡ false → usedIn d ≡ length d
-      open-used d q = rw q (ap length (open-all d q))
 
   -- the chunk is used up, there is no room left, or a run's last line was counted
-  module _ (n : length out ≡ length out₀) where
-    stop : (ltb i (length chunk) ≡ true → (room (length out₀) at && ltb (s .lines) lastLines) ≡ false) → Consumes s₀ chunk out₀ i at s out
-    stop full = record { part = g .part; session = g .session; output = g .output; within = omega (arith, g .within); rest = full }
+  stop : takenFrom (length out₀) at s (linesOf (drop i chunk)) ≡ [] → Consumes s₀ chunk out₀ i at s out
+  stop none =
+      let all : takenOf (length out₀) s₀ chunk ≡ g .done = g .taken ∙ ap (λ (ys : List Line). g .done ++ ys) none ∙ append-nil (g .done) in record {
+        part = g .bytes ∙ ap bytesOf (sym all);
+        session = g .session ∙ ap (sessionAfterAll s₀) (sym all);
+        output = wrote-is (ap (piecesOutput s₀) (sym all)) (g .output);
+        within = g .within;
+      }
 
-    pub going-end : length chunk ≤ i → Consumes s₀ chunk out₀ i at s out
-    going-end h = stop (λ q. absurd (omega (arith, ltb-true i (length chunk) q)))
+  none-taken : (xs : List Line) → goesOn (length out₀) at s ≡ false → takenFrom (length out₀) at s xs ≡ []
+  unfolding takenFrom
+  none-taken [] e = refl
+  none-taken (x ∷ xs) e = rw e
 
-    pub going-full : room (length out) at ≡ false → Consumes s₀ chunk out₀ i at s out
-    going-full e = stop (λ q. rw (← n, e))
+  pub going-end : length chunk ≤ i → Consumes s₀ chunk out₀ i at s out
+  unfolding takenFrom linesFrom
+  going-end h = stop (ap (λ (l : List ℕ). takenFrom (length out₀) at s (linesOf l)) (drop-of-length-le chunk h))
 
-    pub going-last : lastLines ≤ s .lines → Consumes s₀ chunk out₀ i at s out
-    going-last h = stop (λ q. rw (le-ltb (s .lines) lastLines h) (and-false (room (length out₀) at)))
+  pub going-full : room (length out) at ≡ false → Consumes s₀ chunk out₀ i at s out
+  going-full e = let e₀ : room (length out₀) at ≡ false = rw n at e in stop (none-taken _ (rw e₀))
+
+  pub going-last : lastLines ≤ s .lines → Consumes s₀ chunk out₀ i at s out
+  going-last h = stop (none-taken _ (rw (le-ltb (s .lines) lastLines h) (and-false (room (length out₀) at))))
 
 -- no buffer changes its length
 pub record Kept (list₀ row₀ image₀ table₀ buf₀ out₀ list′ row′ image′ table′ buf′ out′ : List ℕ) : Type 0 where
@@ -236,7 +333,7 @@ kept-start list row image table buf out = record { list = refl; row = refl; imag
 -- ---- the end of input
 module _ (out : List ℕ) (n : ℕ) (p : Partial) where
   pub closes-none : closable (length out) n ≡ false → Closes out n p 0 out
-  closes-none e = record { output = λ h. absurd (true≢false (sym h ∙ e)); within = omega arith; none = λ h. (refl, refl) }
+  closes-none e = record { output = rw e (wrote-none out 0); within = omega arith }
 
   module _ (big : 256 ≤ length out) where
     pub closes-last : begun p ≡ false → (r : ℕ) (out′ : List ℕ) → Puts out 0 (lastOutput n) r out′ → n ≤ lastLines → Closes out n p r out′
@@ -244,9 +341,8 @@ module _ (out : List ℕ) (n : ℕ) (p : Partial) where
     closes-last e r out′ w h =
         let k = le-leb (0 + 128) (length out) (omega arith) in
         let c : closable (length out) n ≡ true = both (le-leb 256 (length out) big) (le-leb n lastLines h) in record {
-          output = λ q. rw e (record { place = rw k at (w .place); buffer = rw k at (w .buffer) });
+          output = rw (c, e) (record { place = rw k at (w .place); buffer = rw k at (w .buffer) });
           within = omega (arith, w .short);
-          none = λ q. absurd (true≢false (sym c ∙ q));
         }
 
     pub closes-begun : begun p ≡ true → (at r : ℕ) (out′ out″ : List ℕ) (s : Reply) → s ≡ malformedReply → Puts out 0 (outputLine (n + 1) s lentBuffer) at out′
@@ -258,9 +354,8 @@ module _ (out : List ℕ) (n : ℕ) (p : Partial) where
         let c : closable (length out) n ≡ true = both (le-leb 256 (length out) big) (le-leb n lastLines h) in
         let first : Wrote out 0 (outputLine (n + 1) malformedReply lentBuffer) at out′ =
         wrote-is (ap (λ (t : Reply). outputLine (n + 1) t lentBuffer) z) (record { place = rw k at (v .place); buffer = rw k at (v .buffer) }) in record {
-          output = λ q. rw e (wrote-then first (record { place = rw m at (w .place); buffer = rw m at (w .buffer) }));
+          output = rw (c, e) (wrote-then first (record { place = rw m at (w .place); buffer = rw m at (w .buffer) }));
           within = omega (arith, v .short, w .short);
-          none = λ q. absurd (true≢false (sym c ∙ q));
         }
 
 pub small : (size n : ℕ) → size < 256 → closable size n ≡ false

@@ -3,7 +3,7 @@ use mathlib.Core.Path.{_≡_}
 use mathlib.Core.Bool.{Bool, _&&_, false, true, cond}
 use mathlib.Core.List.{List, [], _∷_, _++_}
 use Prim.Native.Nat.{ℕ, _+_, _≤_}
-use lib.ListN.{length, take}
+use lib.ListN.{length}
 use lib.Dec.{eqb, leb, ltb}
 use Rattle.model.specs.Images.{images}
 use Rattle.model.specs.Agreement.{Units, freshUnits}
@@ -106,13 +106,33 @@ pub record Takes (s : Session) (chunk out : List ℕ) (at used r : ℕ) (s′ : 
 abbrev pub lastLines : ℕ
 lastLines = 18446744073709551614
 
--- as much of a chunk taken as the output has room for, as if the part taken had been the chunk
+-- the next piece is taken: the output has room for a line from a place on, and one more line can be counted
+abbrev pub goesOn : ℕ → ℕ → Session → Bool
+goesOn size at s = room size at && ltb (s .lines) lastLines
+
+-- those of the pieces that are taken, one after another while that goes on, with their output from a place on in a buffer of size bytes
+unfoldable pub takenFrom : ℕ → ℕ → Session → List Line → List Line
+takenFrom size at s [] = []
+takenFrom size at s (x ∷ xs) = cond (goesOn size at s) (x ∷ takenFrom size (at + length (pieceOutput s x)) (sessionAfter s x) xs) []
+
+-- the pieces of a chunk that are taken into an empty buffer
+abbrev pub takenOf : ℕ → Session → List ℕ → List Line
+takenOf size s chunk = takenFrom size 0 s (linesOf chunk)
+
+-- how many bytes of input a piece is, with its byte 10, and how many some pieces are
+abbrev pub pieceBytes : Line → ℕ
+pieceBytes x = cond (x .ended) (length (x .text) + 1) (length (x .text))
+
+unfoldable pub bytesOf : List Line → ℕ
+bytesOf [] = 0
+bytesOf (x ∷ xs) = pieceBytes x + bytesOf xs
+
+-- a chunk taken, or its first pieces, as many as the output has room for: how much that is, what it leaves, and what it writes
 pub record Consumes (s : Session) (chunk out : List ℕ) (used written : ℕ) (s′ : Session) (out′ : List ℕ) : Type 0 where
-  pub part : used ≤ length chunk
-  pub session : s′ ≡ sessionAfterAll s (linesOf (take used chunk))
-  pub output : Wrote out 0 (piecesOutput s (linesOf (take used chunk))) written out′
+  pub part : used ≡ bytesOf (takenOf (length out) s chunk)
+  pub session : s′ ≡ sessionAfterAll s (takenOf (length out) s chunk)
+  pub output : Wrote out 0 (piecesOutput s (takenOf (length out) s chunk)) written out′
   pub within : written ≤ length out
-  pub rest : ltb used (length chunk) ≡ true → (room (length out) written && ltb (s′ .lines) lastLines) ≡ false
 
 -- there is room for the last two lines, and counting one more doesn't wrap
 abbrev pub closable : ℕ → ℕ → Bool
@@ -120,6 +140,5 @@ closable size n = leb 256 size && leb n lastLines
 
 -- the end of input: the closing lines, or nothing where there is no room
 pub record Closes (out : List ℕ) (n : ℕ) (p : Partial) (r : ℕ) (out′ : List ℕ) : Type 0 where
-  pub output : closable (length out) n ≡ true → Wrote out 0 (closing n p) r out′
+  pub output : Wrote out 0 (cond (closable (length out) n) (closing n p) []) r out′
   pub within : r ≤ length out
-  pub none : closable (length out) n ≡ false → (r ≡ 0) × (out′ ≡ out)

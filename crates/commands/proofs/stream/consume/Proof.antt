@@ -1,3 +1,5 @@
+-- Takes the chunk piece after piece: after each, the pieces done and what the definition takes of the rest make up what it takes
+-- (`Going`), so that the loop stops where the definition does.
 use borrow.Author.Tests.{not-true, not-false}
 use Rattle.commands.specs.Session.{unitsIn, session}
 use Rattle.commands.proofs.Session.{Going, going-start, going-next, going-full, going-last, going-end, Kept, kept-start}
@@ -42,7 +44,9 @@ same-length-6 : tie.Need-same-length-6 Inv-loop μ-loop
 same-length-6 c = c .before .before .before .loop .inv .0 .out
 
 returns : tie.Need-returns Inv-loop μ-loop
-returns c = going-full _ _ _ _ _ _ _ (c .before .before .before .loop .inv .1) (c .before .before .before .loop .inv .0 .out) (sym (c .before .has-room .ensures) ∙ not-true _ (c .if1 .taken))
+returns c =
+    let l = c .before .before .before .loop .inv in
+    going-full _ _ _ _ _ _ _ (l .1) (l .0 .out) (sym (c .before .has-room .ensures) ∙ not-true _ (c .if1 .taken))
 
 same-length-7 : tie.Need-same-length-7 Inv-loop μ-loop
 same-length-7 c = c .before .before .before .before .before .loop .inv .0 .list
@@ -63,7 +67,9 @@ same-length-12 : tie.Need-same-length-12 Inv-loop μ-loop
 same-length-12 c = c .before .before .before .before .before .loop .inv .0 .out
 
 returns-2 : tie.Need-returns-2 Inv-loop μ-loop
-returns-2 c = going-last _ _ _ _ _ _ _ (c .before .before .before .before .before .loop .inv .1) (c .before .before .before .before .before .loop .inv .0 .out) (c .if2 .taken)
+returns-2 c =
+    let l = c .before .before .before .before .before .loop .inv in
+    going-last _ _ _ _ _ _ _ (l .1) (l .0 .out) (c .if2 .taken)
 
 sub-take-piece : tie.Need-sub-take-piece Inv-loop μ-loop
 sub-take-piece c = search needs
@@ -75,24 +81,50 @@ part-take-piece-end : tie.Need-part-take-piece-end Inv-loop μ-loop
 part-take-piece-end c = search needs
 
 take-piece-requires : tie.Need-take-piece-requires Inv-loop μ-loop
-take-piece-requires c κs = (sym (c .before .before .before .before .before .before .before .before .before .before .has-room .ensures) ∙ not-false _ (c .before .before .before .before .before .before .before .before .before .if1 .left), omega (arith, c .before .before .before .before .before .before .before .if2 .left))
+take-piece-requires c κs =
+    let q = c .before .before .before .before .before .before .before in
+    (sym (q .before .before .before .has-room .ensures) ∙ not-false _ (q .before .before .if1 .left), q .if2 .left)
 
 add-i : tie.Need-add-i Inv-loop μ-loop
 add-i c =
-    let g = going-next _ _ _ _ _ _ _ (c .before .before .before .before .before .before .before .before .before .before .before .before .before .before .before .before .before .before .before .before .before .before .before .before .before .before .loop .inv .1) (c .before .before .before .before .before .before .before .before .before .before .before .before .before .before .before .before .before .before .before .before .before .before .before .before .before .loop-test .taken) (sym (c .before .before .before .before .before .before .before .before .before .before .before .before .before .before .before .before .before .before .before .before .before .before .before .before .has-room .ensures) ∙ not-false _ (c .before .before .before .before .before .before .before .before .before .before .before .before .before .before .before .before .before .before .before .before .before .before .before .if1 .left)) _ _ _ _ (c .before .before .before .before .before .before .before .before .before .before .before .before .before .take-piece .kept .1 .1 .1 .1 .1 .0) (c .before .before .before .before .before .before .before .before .before .before .before .before .before .take-piece .ensures) in
-    omega (arith, g .1 .part, c .before .before .before .before .before .before .before .before .before .before .before .before .before .before .before .before .before .before .before .before .before .before .before .before .before .before .before .before .before .before .before .before .before .before .good .1 .1 .1 .1 .1 .1 .1 .0)
+    let t = c .before .before .before .before .before .before .before .before .before .before .before .before .before in
+    let q = t .before .before .before .before .before .before .before .before in
+    let r = q .before .before .before in
+    let l = r .before .before .loop .inv in
+    let g = going-next _ _ _ _ _ _ _ (l .1) (l .0 .out) (r .before .loop-test .taken)
+    (sym (r .has-room .ensures) ∙ not-false _ (q .before .before .if1 .left)) (q .if2 .left) _ _ _ _ (t .take-piece .ensures) in
+    omega (arith, g .1 .part, r .before .before .before .before .before .before .before .before .before .before .good .1 .1 .1 .1 .1 .1 .1 .0)
 
 loop-less : tie.Need-loop-less Inv-loop μ-loop
 loop-less c =
-    let g = going-next _ _ _ _ _ _ _ (c .before .before .before .before .before .before .before .before .before .before .before .before .before .before .before .before .before .before .before .before .before .before .before .before .before .before .before .loop .inv .1) (c .before .before .before .before .before .before .before .before .before .before .before .before .before .before .before .before .before .before .before .before .before .before .before .before .before .before .loop-test .taken) (sym (c .before .before .before .before .before .before .before .before .before .before .before .before .before .before .before .before .before .before .before .before .before .before .before .before .before .has-room .ensures) ∙ not-false _ (c .before .before .before .before .before .before .before .before .before .before .before .before .before .before .before .before .before .before .before .before .before .before .before .before .if1 .left)) _ _ _ _ (c .before .before .before .before .before .before .before .before .before .before .before .before .before .before .take-piece .kept .1 .1 .1 .1 .1 .0) (c .before .before .before .before .before .before .before .before .before .before .before .before .before .before .take-piece .ensures) in
-    omega (arith, g .0, g .1 .part, c .before .before .before .before .before .before .before .before .before .before .before .before .before .before .before .before .before .before .before .before .before .before .before .before .before .before .loop-test .taken)
+    let t = c .before .before .before .before .before .before .before .before .before .before .before .before .before .before in
+    let q = t .before .before .before .before .before .before .before .before in
+    let r = q .before .before .before in
+    let l = r .before .before .loop .inv in
+    let g = going-next _ _ _ _ _ _ _ (l .1) (l .0 .out) (r .before .loop-test .taken)
+    (sym (r .has-room .ensures) ∙ not-false _ (q .before .before .if1 .left)) (q .if2 .left) _ _ _ _ (t .take-piece .ensures) in
+    omega (arith, g .0, g .1 .part)
 
 loop-again : tie.Need-loop-again Inv-loop μ-loop
 loop-again c =
-    let k = c .before .before .before .before .before .before .before .before .before .before .before .before .before .before .take-piece .kept in
-    let l = c .before .before .before .before .before .before .before .before .before .before .before .before .before .before .before .before .before .before .before .before .before .before .before .before .before .before .before .loop .inv .0 in
-    let g = going-next _ _ _ _ _ _ _ (c .before .before .before .before .before .before .before .before .before .before .before .before .before .before .before .before .before .before .before .before .before .before .before .before .before .before .before .loop .inv .1) (c .before .before .before .before .before .before .before .before .before .before .before .before .before .before .before .before .before .before .before .before .before .before .before .before .before .before .loop-test .taken) (sym (c .before .before .before .before .before .before .before .before .before .before .before .before .before .before .before .before .before .before .before .before .before .before .before .before .before .has-room .ensures) ∙ not-false _ (c .before .before .before .before .before .before .before .before .before .before .before .before .before .before .before .before .before .before .before .before .before .before .before .before .if1 .left)) _ _ _ _ (c .before .before .before .before .before .before .before .before .before .before .before .before .before .before .take-piece .kept .1 .1 .1 .1 .1 .0) (c .before .before .before .before .before .before .before .before .before .before .before .before .before .before .take-piece .ensures) in
-    (record { list = k .0 ∙ l .list; row = k .1 .0 ∙ l .row; image = k .1 .1 .0 ∙ l .image; table = k .1 .1 .1 .0 ∙ l .table; buf = k .1 .1 .1 .1 .0 ∙ l .buf; out = k .1 .1 .1 .1 .1 .0 ∙ l .out }, g .1)
+    let t = c .before .before .before .before .before .before .before .before .before .before .before .before .before .before in
+    let q = t .before .before .before .before .before .before .before .before in
+    let r = q .before .before .before in
+    let l = r .before .before .loop .inv in
+    let g = going-next _ _ _ _ _ _ _ (l .1) (l .0 .out) (r .before .loop-test .taken)
+    (sym (r .has-room .ensures) ∙ not-false _ (q .before .before .if1 .left)) (q .if2 .left) _ _ _ _ (t .take-piece .ensures) in
+    let k = t .take-piece .kept in
+    let o = l .0 in (
+      record {
+        list = k .0 ∙ o .list;
+        row = k .1 .0 ∙ o .row;
+        image = k .1 .1 .0 ∙ o .image;
+        table = k .1 .1 .1 .0 ∙ o .table;
+        buf = k .1 .1 .1 .1 .0 ∙ o .buf;
+        out = k .1 .1 .1 .1 .1 .0 ∙ o .out;
+      },
+      g .1,
+    )
 
 same-length-13 : tie.Need-same-length-13 Inv-loop μ-loop
 same-length-13 c = c .before .loop .inv .0 .list
