@@ -22,7 +22,8 @@ use Rattle.lines.proofs.Cuts.{lines-open, open-all}
 use Rattle.commands.specs.declared.reply.Reply.{Reply}
 use Rattle.commands.specs.Output.{outputLine, lastOutput, room, Puts, malformedReply, lentBuffer, replyOf, viaOf, unitsAfter}
 use Rattle.commands.specs.Program.{outputFrom, outputOf}
-use Rattle.commands.specs.Session.{Replies, Session, session, freshSession, asksIn, sessionAfter, pieceOutput, sessionAfterAll, piecesOutput, closing, partsOutput, pieceOf, Runs, Takes, lastLines, goesOn, takenFrom, takenOf, pieceBytes, bytesOf, Consumes, closable, Closes}
+use Rattle.commands.specs.Session.{Replies, Session, session, freshSession, asksIn, sessionAfter, pieceOutput, sessionAfterAll, piecesOutput, closing, partsOutput, pieceOf, Runs, Takes, lastLines, Consumes, closable, Closes}
+use Rattle.commands.specs.Session.{goesOn, takenFrom, takenOf, pieceBytes, bytesOf}
 use Rattle.commands.proofs.Written.{wrote-then, wrote-none, wrote-is}
 use Rattle.commands.proofs.Program.{chunks-same}
 
@@ -140,6 +141,11 @@ lines-next (b ∷ s) h =
     ∙ ap₂ (λ (x : Line) (l : List ℕ). x ∷ linesOf l) (ap₂ line (sym (open-all (b ∷ s) q)) (sym q))
     (sym (ap (λ (k : ℕ). drop k (b ∷ s)) (open-used (b ∷ s) q) ∙ drop-length (b ∷ s))))
 
+pub bytes-append : (xs ys : List Line) → bytesOf (xs ++ ys) ≡ bytesOf xs + bytesOf ys
+unfolding bytesOf
+bytes-append [] ys = omega arith
+bytes-append (x ∷ xs) ys = omega (arith, bytes-append xs ys)
+
 -- a chunk cut between two of its pieces: those before and those after are the pieces of the two parts
 pub record Cut (chunk : List ℕ) (n : ℕ) (xs ys : List Line) : Type 0 where
   pub within : n ≤ length chunk
@@ -167,7 +173,8 @@ cut (b ∷ c) (x ∷ xs) ys e =
           (λ q.
           let o = open-used chunk q in
           ap linesOf (take-all (used + bytesOf xs) chunk (omega arith)) ∙ next
-          ∙ ap (λ (zs : List Line). pieceOf chunk ∷ zs) (ap linesOf (sym (take-all (bytesOf xs) (drop used chunk) (omega arith))) ∙ k .before));
+          ∙ ap (λ (zs : List Line). pieceOf chunk ∷ zs)
+          (ap linesOf (sym (take-all (bytesOf xs) (drop used chunk) (omega arith))) ∙ k .before));
       after = ap linesOf (sym (drop-drop (bytesOf xs) used chunk)) ∙ k .after;
     })
 
@@ -196,7 +203,8 @@ taken-stops size at s (x ∷ xs) h =
     let s′ : Session = sessionAfter s x in
     let ts : List Line = takenFrom size (at + length o) s′ xs in
     let r = taken-stops size (at + length o) s′ xs (rw q at h) in
-    let e : at + length (o ++ piecesOutput s′ ts) ≡ at + length o + length (piecesOutput s′ ts) = omega (arith, length-append o (piecesOutput s′ ts)) in
+    let n = length-append o (piecesOutput s′ ts) in
+    let e : at + length (o ++ piecesOutput s′ ts) ≡ at + length o + length (piecesOutput s′ ts) = omega arith in
     rw q (ap (λ (k : ℕ). goesOn size k (sessionAfterAll s′ ts)) e ∙ r))
     (λ q. rw q (ap (λ (k : ℕ). goesOn size k s) (add-zero at) ∙ q))
 
@@ -215,10 +223,9 @@ module _ {s s′ : Session} {chunk out out′ : List ℕ} {used written : ℕ} (
   consumes-output = wrote-is (ap (piecesOutput s) (sym (cut-there .before))) (c .output)
 
   -- the part taken ends between two pieces
-  pub consumes-lines : linesOf chunk ≡ linesOf (take used chunk) ++ linesOf (drop used chunk)
+  pub consumes-lines : linesOf chunk ≡ takenOf (length out) s chunk ++ linesOf (drop used chunk)
   consumes-lines =
-      taken-split (length out) 0 s (linesOf chunk)
-      ∙ ap₂ (λ (xs ys : List Line). xs ++ ys) (sym (cut-there .before)) (sym (cut-there .after))
+      taken-split (length out) 0 s (linesOf chunk) ∙ ap (λ (ys : List Line). takenOf (length out) s chunk ++ ys) (sym (cut-there .after))
 
   -- and some is left only where the output has no room for a line, or a run's last line was counted
   pub consumes-rest : used < length chunk → goesOn (length out) written s′ ≡ false
@@ -229,11 +236,6 @@ module _ {s s′ : Session} {chunk out out′ : List ℕ} {used written : ℕ} (
       ap₂ (goesOn (length out)) (c .output .place) (c .session) ∙ taken-stops (length out) 0 s (linesOf chunk) (omega arith)
 
 -- ---- the loop over a chunk
-bytes-snoc : (xs : List Line) (x : Line) → bytesOf (xs ++ (x ∷ [])) ≡ bytesOf xs + pieceBytes x
-unfolding bytesOf
-bytes-snoc [] x = omega arith
-bytes-snoc (y ∷ xs) x = omega (arith, bytes-snoc xs x)
-
 -- how far the loop is: these pieces are done, and what is taken of the chunk are these and what is taken of the rest
 pub record Going (s₀ s : Session) (chunk out₀ out : List ℕ) (i at : ℕ) : Type 0 where
   pub done : List Line
@@ -282,7 +284,7 @@ module _ (s₀ s : Session) (chunk out₀ out : List ℕ) (i at : ℕ) (g : Goin
         omega arith,
         record {
           done = xs ++ (x ∷ []);
-          bytes = omega (arith, g .bytes, bytes-snoc xs x, ud);
+          bytes = omega (arith, g .bytes, bytes-append xs (x ∷ []), ud);
           part = omega arith;
           taken = g .taken ∙ ap (λ (ys : List Line). xs ++ ys) more ∙ sym (append-assoc xs (x ∷ []) _);
           session = t .session ∙ ap₂ sessionAfter (g .session) px ∙ sym (after-append s₀ xs (x ∷ []));
@@ -296,7 +298,8 @@ module _ (s₀ s : Session) (chunk out₀ out : List ℕ) (i at : ℕ) (g : Goin
   -- the chunk is used up, there is no room left, or a run's last line was counted
   stop : takenFrom (length out₀) at s (linesOf (drop i chunk)) ≡ [] → Consumes s₀ chunk out₀ i at s out
   stop none =
-      let all : takenOf (length out₀) s₀ chunk ≡ g .done = g .taken ∙ ap (λ (ys : List Line). g .done ++ ys) none ∙ append-nil (g .done) in record {
+      let all : takenOf (length out₀) s₀ chunk ≡ g .done =
+      g .taken ∙ ap (λ (ys : List Line). g .done ++ ys) none ∙ append-nil (g .done) in record {
         part = g .bytes ∙ ap bytesOf (sym all);
         session = g .session ∙ ap (sessionAfterAll s₀) (sym all);
         output = wrote-is (ap (piecesOutput s₀) (sym all)) (g .output);

@@ -1,10 +1,19 @@
 // The program: standard input to standard output, over three fresh units. It reads, calls the command reader, and writes.
+// No contract can say which bytes are read or written. What they make of the units, the line buffer and the place in the run is said;
+// of the output buffer, only what the last lines put there.
 use commands::stream;
 use commands::stream::Progress;
+use grants::Grants;
 use libc::STDIN_FILENO;
 use libc::STDOUT_FILENO;
+use lists::Lists;
+use loans::Loans;
+use rows::Rows;
 ghost use Prim.Native.Nat.{_≤_};
 ghost use lib.ListN.{length};
+ghost use Rattle.lines.specs.Collect.{nothingHeld};
+ghost use Rattle.commands.specs.Session.{unitsIn, session};
+ghost use Rattle.program.specs.Loop.{Answered, ReadOnce, Finishes, Ran};
 
 // Where a run stands after a turn: it goes on, the input ended, or a read or a write failed.
 enum Turn {
@@ -22,15 +31,19 @@ fn write(out: &[u8], n: usize) -> bool
 
 // Hands a chunk to the command reader, as much at a time as the output has room for, and writes the output.
 fn answer(
-    list: &mut [u64; 513],
-    row: &mut [u8; 4104],
-    image: &mut [u8; 32776],
-    table: &mut [u32; 1025],
+    list: &mut [u64; Lists::WORDS],
+    row: &mut [u8; Rows::BYTES],
+    image: &mut [u8; Grants::BYTES],
+    table: &mut [u32; Loans::WORDS],
     buf: &mut [u8; 128],
     out: &mut [u8],
     p: Progress,
     chunk: &[u8],
-) -> Turn {
+) -> Turn
+    ensures { λ r. ⌜ Answered (session (p .lines) (unitsIn (now (list .entry)) (now (row .entry)) (now (image .entry)) (now (table .entry)))
+        (now (buf .entry)) (p .held)) (now (chunk .entry))
+        (unitsIn (now (list .exit)) (now (row .exit)) (now (image .exit)) (now (table .exit))) (now (buf .exit)) r ⌝ }
+{
     let mut next = p;
     let mut i: usize = 0;
     while i < chunk.len() {
@@ -50,14 +63,18 @@ fn answer(
 
 // Reads once and answers what came.
 fn read_some(
-    list: &mut [u64; 513],
-    row: &mut [u8; 4104],
-    image: &mut [u8; 32776],
-    table: &mut [u32; 1025],
+    list: &mut [u64; Lists::WORDS],
+    row: &mut [u8; Rows::BYTES],
+    image: &mut [u8; Grants::BYTES],
+    table: &mut [u32; Loans::WORDS],
     buf: &mut [u8; 128],
     out: &mut [u8],
     p: Progress,
-) -> Turn {
+) -> Turn
+    ensures { λ r. ⌜ ReadOnce (session (p .lines) (unitsIn (now (list .entry)) (now (row .entry)) (now (image .entry)) (now (table .entry)))
+        (now (buf .entry)) (p .held))
+        (unitsIn (now (list .exit)) (now (row .exit)) (now (image .exit)) (now (table .exit))) (now (buf .exit)) r ⌝ }
+{
     let mut chunk = io::large_buffer();
     let got = libc::read(STDIN_FILENO, &mut chunk);
     if got < 0 {
@@ -71,7 +88,9 @@ fn read_some(
 }
 
 // The closing lines.
-fn finish(out: &mut [u8], p: Progress) {
+fn finish(out: &mut [u8], p: Progress)
+    ensures { λ _. ⌜ Finishes (now (out .entry)) p (now (out .exit)) ⌝ }
+{
     let n = stream::close(out, p);
     write(out, n);
 }
@@ -79,13 +98,17 @@ fn finish(out: &mut [u8], p: Progress) {
 // Turn after turn to the end of input. A proved loop ends, and nothing says that the input does, so the turns are counted down from a
 // number that no run uses up.
 fn read_all(
-    list: &mut [u64; 513],
-    row: &mut [u8; 4104],
-    image: &mut [u8; 32776],
-    table: &mut [u32; 1025],
+    list: &mut [u64; Lists::WORDS],
+    row: &mut [u8; Rows::BYTES],
+    image: &mut [u8; Grants::BYTES],
+    table: &mut [u32; Loans::WORDS],
     buf: &mut [u8; 128],
     out: &mut [u8],
-) {
+)
+    ensures { λ _. ⌜ Ran (session 0 (unitsIn (now (list .entry)) (now (row .entry)) (now (image .entry)) (now (table .entry)))
+        (now (buf .entry)) nothingHeld)
+        (unitsIn (now (list .exit)) (now (row .exit)) (now (image .exit)) (now (table .exit))) (now (buf .exit)) ⌝ }
+{
     let mut next = Progress::start();
     let mut turns = u64::MAX;
     while turns > 0 {
@@ -105,10 +128,10 @@ fn read_all(
 // The whole program. A failed read or write ends it with no further line. Nothing is lent and nothing returned, and no contract can
 // say what is read or written: `parts-same` (commands) says what the calls below write for any input.
 pub fn run() {
-    let mut list = [0u64; 513];
-    let mut row = [0u8; 4104];
-    let mut image = [0u8; 32776];
-    let mut table = [0u32; 1025];
+    let mut list = [0u64; Lists::WORDS];
+    let mut row = [0u8; Rows::BYTES];
+    let mut image = [0u8; Grants::BYTES];
+    let mut table = [0u32; Loans::WORDS];
     let mut buf = [0u8; 128];
     let mut out = [0u8; 65536];
     commands::fresh(&mut list, &mut row, &mut image, &mut table);

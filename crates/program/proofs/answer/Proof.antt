@@ -1,20 +1,25 @@
-use Rattle.program.proofs.Parts.{taken-part}
+-- The chunk is taken part after part: the pieces done are its first bytes (`Through`), whether all were taken or a write failed.
+use Rattle.commands.specs.Session.{unitsIn, session}
+use Rattle.program.proofs.Parts.{Through, through-start, through-next, through-end, through-stop}
 use borrow.Author.Needs.{needs}
 use native.Mathlib.Omega.{arith}
-use mathlib.Core.Path.{_≡_, _∙_}
+use mathlib.Core.Path.{_≡_, refl, _∙_}
 use Prim.Native.Nat.{_-_, _≤_}
 use lib.ListN.{length}
 use Rattle.program.proofs.answer.Statement.{statement}
 use Rattle.program.proofs.answer.Tie as tie
 
 abbrev Inv-loop : tie.InvT-loop
-Inv-loop list₀ row₀ image₀ table₀ buf₀ out₀ chunk next₀ i₀ list row image table buf out next i = (i ≤ length chunk) × (length out ≡ length out₀)
+Inv-loop list₀ row₀ image₀ table₀ buf₀ out₀ chunk next₀ i₀ list row image table buf out next i =
+    Through (session (next₀ .lines) (unitsIn list₀ row₀ image₀ table₀) buf₀ (next₀ .held))
+    (session (next .lines) (unitsIn list row image table) buf (next .held)) chunk i
+    × (length out ≡ length out₀)
 
 abbrev μ-loop : tie.MeasureT-loop
 μ-loop list₀ row₀ image₀ table₀ buf₀ out₀ chunk next₀ i₀ list row image table buf out next i = length chunk - i
 
 loop-holds : tie.Need-loop-holds Inv-loop μ-loop
-loop-holds c = search needs
+loop-holds c = (through-start _ _, refl)
 
 sub-consume : tie.Need-sub-consume Inv-loop μ-loop
 sub-consume c = search needs
@@ -32,31 +37,50 @@ same-length : tie.Need-same-length Inv-loop μ-loop
 same-length c = search needs
 
 returns : tie.Need-returns Inv-loop μ-loop
-returns c = search needs
+returns c =
+    let q = c .before .before .before .before in
+    let l = q .before .before .before .before .before .before .before .before .before .loop .inv in
+    through-stop (through-next (l .0) (q .consume .ensures))
 
 write-requires : tie.Need-write-requires Inv-loop μ-loop
-write-requires c κs = omega (arith, c .before .before .before .before .before .consume .ensures .within, c .before .before .before .before .before .consume .kept .1 .1 .1 .1 .1 .0)
+write-requires c κs =
+    let q = c .before .before .before .before .before in
+    omega (arith, q .consume .ensures .within, q .consume .kept .1 .1 .1 .1 .1 .0)
 
 same-length-2 : tie.Need-same-length-2 Inv-loop μ-loop
 same-length-2 c = search needs
 
 returns-2 : tie.Need-returns-2 Inv-loop μ-loop
-returns-2 c = search needs
+returns-2 c =
+    let q = c .before .before .before .before .before .before .before in
+    let l = q .before .before .before .before .before .before .before .before .before .loop .inv in
+    through-stop (through-next (l .0) (q .consume .ensures))
 
 add-i : tie.Need-add-i Inv-loop μ-loop
-add-i c = omega (arith, taken-part (c .before .before .before .before .before .before .before .before .before .before .before .before .before .before .before .before .before .before .before .before .args .chunk .now) (c .before .before .before .before .before .before .before .before .before .before .before .before .before .before .before .before .before .loop .i) _ (c .before .before .before .before .before .before .before .before .before .before .before .before .before .before .before .before .before .loop .inv .0) (c .before .before .before .before .before .before .before .before .consume .ensures .part), c .before .before .before .before .before .before .before .before .before .before .before .before .before .before .before .before .before .before .before .before .good .1 .1 .1 .1 .1 .1 .1 .0)
+add-i c =
+    let q = c .before .before .before .before .before .before .before .before in
+    let l = q .before .before .before .before .before .before .before .before .before in
+    let t = through-next (l .loop .inv .0) (q .consume .ensures) in
+    omega (arith, t .part, l .before .before .before .good .1 .1 .1 .1 .1 .1 .1 .0)
 
 loop-less : tie.Need-loop-less Inv-loop μ-loop
-loop-less c = search needs
+loop-less c =
+    let q = c .before .before .before .before .before .before .before .before .before in
+    let l = q .before .before .before .before .before .before .before .before .before in
+    let t = through-next (l .loop .inv .0) (q .consume .ensures) in
+    omega (arith, t .part)
 
 loop-again : tie.Need-loop-again Inv-loop μ-loop
-loop-again c = (taken-part (c .before .before .before .before .before .before .before .before .before .before .before .before .before .before .before .before .before .before .before .before .before .args .chunk .now) (c .before .before .before .before .before .before .before .before .before .before .before .before .before .before .before .before .before .before .loop .i) _ (c .before .before .before .before .before .before .before .before .before .before .before .before .before .before .before .before .before .before .loop .inv .0) (c .before .before .before .before .before .before .before .before .before .consume .ensures .part), c .before .before .before .before .before .before .before .before .before .consume .kept .1 .1 .1 .1 .1 .0 ∙ c .before .before .before .before .before .before .before .before .before .before .before .before .before .before .before .before .before .before .loop .inv .1)
+loop-again c =
+    let q = c .before .before .before .before .before .before .before .before .before in
+    let l = q .before .before .before .before .before .before .before .before .before in
+    (through-next (l .loop .inv .0) (q .consume .ensures), q .consume .kept .1 .1 .1 .1 .1 .0 ∙ l .loop .inv .1)
 
 same-length-3 : tie.Need-same-length-3 Inv-loop μ-loop
 same-length-3 c = search needs
 
 returns-3 : tie.Need-returns-3 Inv-loop μ-loop
-returns-3 c = search needs
+returns-3 c = through-end (c .before .loop .inv .0) (c .loop-test .left)
 
 pub answer-spec : {M : Type 1} → statement M
 answer-spec =

@@ -14,7 +14,8 @@ use Rattle.commands.proofs.stream.consume.Tie as tie
 abbrev Inv-loop : tie.InvT-loop
 Inv-loop list₀ row₀ image₀ table₀ buf₀ out₀ chunk next₀ at₀ i₀ list row image table buf out next at i =
     Kept list₀ row₀ image₀ table₀ buf₀ out₀ list row image table buf out
-    × Going (session (next₀ .lines) (unitsIn list₀ row₀ image₀ table₀) buf₀ (next₀ .held)) (session (next .lines) (unitsIn list row image table) buf (next .held)) chunk out₀ out i at
+    × Going (session (next₀ .lines) (unitsIn list₀ row₀ image₀ table₀) buf₀ (next₀ .held))
+    (session (next .lines) (unitsIn list row image table) buf (next .held)) chunk out₀ out i at
 
 abbrev μ-loop : tie.MeasureT-loop
 μ-loop list₀ row₀ image₀ table₀ buf₀ out₀ chunk next₀ at₀ i₀ list row image table buf out next at i = length chunk - i
@@ -93,7 +94,8 @@ add-i c =
     let l = r .before .before .loop .inv in
     let g = going-next _ _ _ _ _ _ _ (l .1) (l .0 .out) (r .before .loop-test .taken)
     (sym (r .has-room .ensures) ∙ not-false _ (q .before .before .if1 .left)) (q .if2 .left) _ _ _ _ (t .take-piece .ensures) in
-    omega (arith, g .1 .part, r .before .before .before .before .before .before .before .before .before .before .good .1 .1 .1 .1 .1 .1 .1 .0)
+    let start = r .before .before .before .before .before .before .before .before .before .before in
+    omega (arith, g .1 .part, start .good .1 .1 .1 .1 .1 .1 .1 .0)
 
 loop-less : tie.Need-loop-less Inv-loop μ-loop
 loop-less c =
