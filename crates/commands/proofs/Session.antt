@@ -39,7 +39,8 @@ collected-output n u k (x ∷ xs) =
     (λ q.
     let x′ = asksIn s x in
     rw q (ap (λ (l : List ℕ). outputLine (n + 1) (replyOf u x′) (viaOf u x′) ++ l)
-    (collected-output (n + 1) (unitsAfter u x′) (emptyWith (takes k (x .text) .buffer)) xs) ∙ sym (append-assoc (outputLine (n + 1) (replyOf u x′) (viaOf u x′)) _ _)))
+    (collected-output (n + 1) (unitsAfter u x′) (emptyWith (takes k (x .text) .buffer)) xs)
+    ∙ sym (append-assoc (outputLine (n + 1) (replyOf u x′) (viaOf u x′)) _ _)))
     (λ q. rw q (collected-output n u (takes k (x .text)) xs))
   where
     s : Session
@@ -51,7 +52,8 @@ unfolding sessionAfterAll
 after-append s [] ys = refl
 after-append s (x ∷ xs) ys = after-append (sessionAfter s x) xs ys
 
-pub output-append : (s : Session) (xs ys : List Line) → piecesOutput s (xs ++ ys) ≡ piecesOutput s xs ++ piecesOutput (sessionAfterAll s xs) ys
+pub output-append : (s : Session) (xs ys : List Line)
+    → piecesOutput s (xs ++ ys) ≡ piecesOutput s xs ++ piecesOutput (sessionAfterAll s xs) ys
 unfolding sessionAfterAll piecesOutput
 output-append s [] ys = refl
 output-append s (x ∷ xs) ys =
@@ -64,10 +66,12 @@ unfolding partsOutput pieces piecesOutput sessionAfterAll
 parts-pieces s [] = refl
 parts-pieces s (c ∷ cs) =
     rw (after-append s (linesOf c) (pieces cs), output-append s (linesOf c) (pieces cs))
-    (ap (λ (l : List ℕ). piecesOutput s (linesOf c) ++ l) (parts-pieces (sessionAfterAll s (linesOf c)) cs) ∙ sym (append-assoc (piecesOutput s (linesOf c)) _ _))
+    (ap (λ (l : List ℕ). piecesOutput s (linesOf c) ++ l) (parts-pieces (sessionAfterAll s (linesOf c)) cs)
+    ∙ sym (append-assoc (piecesOutput s (linesOf c)) _ _))
 
 -- a run from fresh units writes the program's output, whatever the parts in which it takes its input
-pub parts-same : (buffer : List ℕ) → 128 ≤ length buffer → (parts : List (List ℕ)) → partsOutput (freshSession buffer) parts ≡ outputOf (whole parts)
+pub parts-same : (buffer : List ℕ) → 128 ≤ length buffer → (parts : List (List ℕ))
+    → partsOutput (freshSession buffer) parts ≡ outputOf (whole parts)
 parts-same buffer big parts =
     parts-pieces (freshSession buffer) parts ∙ sym (collected-output 0 _ _ (pieces parts)) ∙ chunks-same buffer big parts
 
@@ -94,7 +98,8 @@ module _ (n : ℕ) (u : Units) (buf buf′ : List ℕ) (p : Partial) (chunk out 
       }
 
   pub takes-ended : fed .ended ≡ true → (u′ : Units) (out′ : List ℕ) (r : ℕ) (none : Partial) → none ≡ nothingHeld
-      → Runs u (heldLine buf′ (fed .held)) (n + 1) out at r u′ out′ → Takes (session n u buf p) chunk out at (fed .used) r (session (n + 1) u′ buf′ none) out′
+      → Runs u (heldLine buf′ (fed .held)) (n + 1) out at r u′ out′
+      → Takes (session n u buf p) chunk out at (fed .used) r (session (n + 1) u′ buf′ none) out′
   unfolding sessionAfter pieceOutput
   takes-ended h u′ out′ r none z w =
       let q : endsIn chunk ≡ true = sym (ap (λ (f : Fed). f .ended) e) ∙ h in
@@ -116,7 +121,8 @@ first-line l (b ∷ s) t h =
     by-cases (eqb b 10) (λ q. rw q (ap (λ (m : List ℕ). line m true ∷ linesOf t) (sym (append-nil l))))
     (λ q.
     let k : suc (length (beforeNewline s)) < suc (length s) = rw q at h in
-    rw q (first-line (l ++ (b ∷ [])) s t (omega arith) ∙ ap (λ (m : List ℕ). line m true ∷ linesOf t) (append-assoc l (b ∷ []) (beforeNewline s))))
+    rw q (first-line (l ++ (b ∷ [])) s t (omega arith)
+    ∙ ap (λ (m : List ℕ). line m true ∷ linesOf t) (append-assoc l (b ∷ []) (beforeNewline s))))
 
 piece-ended : (s : List ℕ) → endsIn s ≡ true → (t : List ℕ) → linesOf (take (usedIn s) s ++ t) ≡ pieceOf s ∷ linesOf t
 piece-ended s e t = rw (e, add-one (length (beforeNewline s))) (first-line [] s t (ltb-true _ _ e))
@@ -348,7 +354,8 @@ module _ (out : List ℕ) (n : ℕ) (p : Partial) where
           within = omega (arith, w .short);
         }
 
-    pub closes-begun : begun p ≡ true → (at r : ℕ) (out′ out″ : List ℕ) (s : Reply) → s ≡ malformedReply → Puts out 0 (outputLine (n + 1) s lentBuffer) at out′
+    pub closes-begun : begun p ≡ true → (at r : ℕ) (out′ out″ : List ℕ) (s : Reply) → s ≡ malformedReply
+        → Puts out 0 (outputLine (n + 1) s lentBuffer) at out′
         → length out′ ≡ length out → Puts out′ at (lastOutput (n + 1)) r out″ → n ≤ lastLines → Closes out n p r out″
     unfolding closing
     closes-begun e at r out′ out″ s z v l w h =
@@ -356,7 +363,8 @@ module _ (out : List ℕ) (n : ℕ) (p : Partial) where
         let m : room (length out′) at ≡ true = le-leb (at + 128) (length out′) (omega (arith, v .short)) in
         let c : closable (length out) n ≡ true = both (le-leb 256 (length out) big) (le-leb n lastLines h) in
         let first : Wrote out 0 (outputLine (n + 1) malformedReply lentBuffer) at out′ =
-        wrote-is (ap (λ (t : Reply). outputLine (n + 1) t lentBuffer) z) (record { place = rw k at (v .place); buffer = rw k at (v .buffer) }) in record {
+        wrote-is (ap (λ (t : Reply). outputLine (n + 1) t lentBuffer) z)
+        (record { place = rw k at (v .place); buffer = rw k at (v .buffer) }) in record {
           output = rw (c, e) (wrote-then first (record { place = rw m at (w .place); buffer = rw m at (w .buffer) }));
           within = omega (arith, v .short, w .short);
         }

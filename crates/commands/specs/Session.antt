@@ -28,12 +28,15 @@ pub record Replies (u : Units) (x : Parsed) (r : Reply) (via : List ℕ) (u′ :
 
 -- the buffers of the three units have their lengths
 abbrev pub sized : Units → Bool
-sized u = eqb (length (u .lists)) 513 && (eqb (length (u .rows)) 4104 && (eqb (length (u .chains .grants)) 32776 && eqb (length (u .chains .loans)) 1025))
+sized u =
+    eqb (length (u .lists)) 513
+    && (eqb (length (u .rows)) 4104 && (eqb (length (u .chains .grants)) 32776 && eqb (length (u .chains .loans)) 1025))
 
 -- 'making a fresh unit knows 1 alone': three units made fresh, or nothing changed
 unfoldable pub startNumber : Units → ℕ
 startNumber u = cond (sized u) 0 1
 
+-- and the units then
 unfoldable pub startOf : Units → Units
 startOf u = cond (sized u) freshUnits u
 
@@ -44,6 +47,7 @@ pub record Session : Type 0 where
   pub units : Units
   pub collector : Collector
 
+-- the same of its parts
 abbrev pub session : ℕ → Units → List ℕ → Partial → Session
 session n u buf p = record { lines = n; units = u; collector = record { buffer = buf; held = p } }
 
@@ -59,18 +63,23 @@ asksIn s x = heldLine (takes (s .collector) (x .text) .buffer) (takes (s .collec
 unfoldable pub sessionAfter : Session → Line → Session
 sessionAfter s x =
     cond (x .ended)
-    (record { lines = s .lines + 1; units = unitsAfter (s .units) (asksIn s x); collector = emptyWith (takes (s .collector) (x .text) .buffer) })
+    (record {
+      lines = s .lines + 1;
+      units = unitsAfter (s .units) (asksIn s x);
+      collector = emptyWith (takes (s .collector) (x .text) .buffer);
+    })
     (record { lines = s .lines; units = s .units; collector = takes (s .collector) (x .text) })
 
 -- the output for it: a line where one ends
 unfoldable pub pieceOutput : Session → Line → List ℕ
 pieceOutput s x = cond (x .ended) (outputLine (s .lines + 1) (replyOf (s .units) (asksIn s x)) (viaOf (s .units) (asksIn s x))) []
 
--- the same of a list of pieces
+-- after a list of pieces
 unfoldable pub sessionAfterAll : Session → List Line → Session
 sessionAfterAll s [] = s
 sessionAfterAll s (x ∷ xs) = sessionAfterAll (sessionAfter s x) xs
 
+-- and the output for them
 unfoldable pub piecesOutput : Session → List Line → List ℕ
 piecesOutput s [] = []
 piecesOutput s (x ∷ xs) = pieceOutput s x ++ piecesOutput (sessionAfter s x) xs
@@ -110,7 +119,7 @@ lastLines = 18446744073709551614
 abbrev pub goesOn : ℕ → ℕ → Session → Bool
 goesOn size at s = room size at && ltb (s .lines) lastLines
 
--- those of the pieces that are taken, one after another while that goes on, with their output from a place on in a buffer of size bytes
+-- the pieces that are taken of these, one after another while it goes on; their output goes into a buffer of size bytes, from a place on
 unfoldable pub takenFrom : ℕ → ℕ → Session → List Line → List Line
 takenFrom size at s [] = []
 takenFrom size at s (x ∷ xs) = cond (goesOn size at s) (x ∷ takenFrom size (at + length (pieceOutput s x)) (sessionAfter s x) xs) []
@@ -119,10 +128,11 @@ takenFrom size at s (x ∷ xs) = cond (goesOn size at s) (x ∷ takenFrom size (
 abbrev pub takenOf : ℕ → Session → List ℕ → List Line
 takenOf size s chunk = takenFrom size 0 s (linesOf chunk)
 
--- how many bytes of input a piece is, with its byte 10, and how many some pieces are
+-- how many bytes of input a piece is, with its byte 10
 abbrev pub pieceBytes : Line → ℕ
 pieceBytes x = cond (x .ended) (length (x .text) + 1) (length (x .text))
 
+-- and how many some pieces are
 unfoldable pub bytesOf : List Line → ℕ
 bytesOf [] = 0
 bytesOf (x ∷ xs) = pieceBytes x + bytesOf xs

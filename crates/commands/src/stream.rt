@@ -51,7 +51,8 @@ fn take_line(
     held: Partial,
 ) -> usize
     requires { ⌜ (room (length (now out)) at ≡ true) × (lines < lastLines) ⌝ }
-    ensures { λ r. ⌜ Runs (unitsIn (now (list .entry)) (now (row .entry)) (now (image .entry)) (now (table .entry))) (heldLine (now (buf .entry)) held) (lines + 1) (now (out .entry)) at r
+    ensures { λ r. ⌜ Runs (unitsIn (now (list .entry)) (now (row .entry)) (now (image .entry)) (now (table .entry)))
+        (heldLine (now (buf .entry)) held) (lines + 1) (now (out .entry)) at r
         (unitsIn (now (list .exit)) (now (row .exit)) (now (image .exit)) (now (table .exit))) (now (out .exit)) ⌝ }
 {
     let asked = collect::line(buf, held);
@@ -74,8 +75,10 @@ fn take_piece(
     chunk: &[u8],
 ) -> Piece
     requires { ⌜ (room (length (now out)) at ≡ true) × (p .lines < lastLines) ⌝ }
-    ensures { λ r. ⌜ Takes (session (p .lines) (unitsIn (now (list .entry)) (now (row .entry)) (now (image .entry)) (now (table .entry))) (now (buf .entry)) (p .held)) (now (chunk .entry)) (now (out .entry)) at (r .used) (r .at)
-        (session (r .next .lines) (unitsIn (now (list .exit)) (now (row .exit)) (now (image .exit)) (now (table .exit))) (now (buf .exit)) (r .next .held)) (now (out .exit)) ⌝ }
+    ensures { λ r. ⌜ Takes (session (p .lines) (unitsIn (now (list .entry)) (now (row .entry)) (now (image .entry)) (now (table .entry)))
+        (now (buf .entry)) (p .held)) (now (chunk .entry)) (now (out .entry)) at (r .used) (r .at)
+        (session (r .next .lines) (unitsIn (now (list .exit)) (now (row .exit)) (now (image .exit)) (now (table .exit)))
+        (now (buf .exit)) (r .next .held)) (now (out .exit)) ⌝ }
 {
     let lines = p.lines;
     let before = p.held;
@@ -119,8 +122,10 @@ pub fn consume(
     p: Progress,
     chunk: &[u8],
 ) -> Consumed
-    ensures { λ r. ⌜ Consumes (session (p .lines) (unitsIn (now (list .entry)) (now (row .entry)) (now (image .entry)) (now (table .entry))) (now (buf .entry)) (p .held)) (now (chunk .entry)) (now (out .entry)) (r .used) (r .written)
-        (session (r .next .lines) (unitsIn (now (list .exit)) (now (row .exit)) (now (image .exit)) (now (table .exit))) (now (buf .exit)) (r .next .held)) (now (out .exit)) ⌝ }
+    ensures { λ r. ⌜ Consumes (session (p .lines) (unitsIn (now (list .entry)) (now (row .entry)) (now (image .entry)) (now (table .entry)))
+        (now (buf .entry)) (p .held)) (now (chunk .entry)) (now (out .entry)) (r .used) (r .written)
+        (session (r .next .lines) (unitsIn (now (list .exit)) (now (row .exit)) (now (image .exit)) (now (table .exit)))
+        (now (buf .exit)) (r .next .held)) (now (out .exit)) ⌝ }
 {
     let mut next = p;
     let mut at: usize = 0;

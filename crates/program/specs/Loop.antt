@@ -1,4 +1,5 @@
--- The program's loop, over the session of a run. Which bytes are read or written no contract can say: `Came` and `Ran` say that there are some.
+-- The program's loop, over the session of a run.
+-- No contract can say which bytes are read or written: `Came` and `Ran` say that there are some.
 use mathlib.Core.Path.{_≡_}
 use mathlib.Core.List.{List}
 use Prim.Native.Nat.{ℕ, _≤_}

@@ -1,6 +1,6 @@
 // The program: standard input to standard output, over three fresh units. It reads, calls the command reader, and writes.
 // No contract can say which bytes are read or written. What they make of the units, the line buffer and the place in the run is said;
-// of the output buffer, only what the last lines put there.
+// of the output buffer, only what the closing lines put there.
 use commands::stream;
 use commands::stream::Progress;
 use grants::Grants;
