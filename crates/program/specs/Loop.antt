@@ -23,7 +23,7 @@ pub record StoppedIn (s : Session) (chunk : List ℕ) (u : Units) (buf : List �
   pub part : used ≤ length chunk
   pub left : Holds (sessionAfterAll s (linesOf (take used chunk))) u buf
 
--- a chunk answered: all of it is taken, and the run stands after it; or a write failed, or no line more can be counted
+-- a chunk answered: all of it is taken, and the run stands after it; or a write failed or nothing more could be taken, after a part of it
 abbrev pub Answered : Session → List ℕ → Units → List ℕ → Turn → Type 0
 Answered s chunk u buf (Going p) = session (p .lines) u buf (p .held) ≡ sessionAfterAll s (linesOf chunk)
 Answered s chunk u buf Ended = ⊥
@@ -34,7 +34,7 @@ pub record Came (s : Session) (u : Units) (buf : List ℕ) (r : Turn) : Type 0 w
   pub chunk : List ℕ
   pub answered : Answered s chunk u buf r
 
--- one read: a chunk came and was answered; at the end of input nothing changes; where the read fails, no byte came
+-- one read: a chunk came and was answered, an empty one where the read failed; at the end of input nothing changes
 abbrev pub ReadOnce : Session → Units → List ℕ → Turn → Type 0
 ReadOnce s u buf (Going p) = Came s u buf (Going p)
 ReadOnce s u buf Ended = Holds s u buf
