@@ -1,83 +1,63 @@
--- What an accepted command does to the images, command by command.
+-- What an accepted command does to the images, verb by verb: from what the parts leave to `chainAfter`.
 use mathlib.Core.Path.{_≡_, refl, sym, ap, _∙_, subst}
 use mathlib.Core.Bool.{Bool, true, false, not, _&&_, cond}
 use mathlib.Core.List.{List}
-use Prim.Native.Nat.{ℕ, suc}
-use native.Mathlib.Omega.{arith}
+use Prim.Native.Nat.{ℕ}
 use borrow.Author.Tests.{eq-eqb}
 use lib.ListN.{length}
 use lib.Dec.{eqb, leb}
-use Rattle.model.specs.declared.Command.{Command}
-use Rattle.model.specs.declared.Command.the-variants.{Delete, Lend, Recall}
-use Rattle.model.specs.declared.Typed.{Typed}
-use Rattle.model.specs.declared.Typed.the-variants as typed
-use Rattle.model.specs.declared.Item.{Item}
-use Rattle.model.specs.declared.Right.{Right}
-use Rattle.model.specs.declared.Depth.{Depth}
-use Rattle.model.specs.Sets.{any, keep}
-use Rattle.model.specs.Commands.{rawOf}
-use Rattle.model.specs.Answers.{table}
-use Rattle.model.specs.Journal.{loanIn}
-use Rattle.model.specs.Unit.{grantBytes, after, liveIn, inOrder}
-use Rattle.model.specs.Loans.{wordOf, countOf, used, insert, loansImage, loansAfter}
-use Rattle.model.specs.Images.{Images, images}
-use Rattle.model.specs.ChainUnit.{chainFacts, chainAfter}
+use Rattle.model.specs.declared.Verb.{Verb}
+use Rattle.model.specs.declared.Verb.the-variants as verb
+use Rattle.model.specs.declared.Arguments.{Arguments}
 use Rattle.model.specs.declared.Facts.{Facts}
+use Rattle.model.specs.declared.Answer.{Answer}
+use Rattle.model.specs.Sets.{any}
+use Rattle.model.specs.Commands.{mostLoans}
+use Rattle.model.specs.Answers.{numberOf, answerFor, table, knows}
+use Rattle.model.specs.Journal.{loanIn}
+use Rattle.model.specs.Unit.{grantBytes, liveIn, inOrder}
+use Rattle.model.specs.Loans.{wordOf, tableWords, countOf, used, loansWith, loansKept}
+use Rattle.model.specs.Images.{Images, images}
+use Rattle.model.specs.ChainUnit.{chainFacts, chainDone, chainAfter, chainUnit}
 use Rattle.model.proofs.Sets.{snd}
-use Rattle.model.proofs.Invariant.{passed}
-use Rattle.loans.specs.declared.Rule.the-variants.{Other, Without}
-use Rattle.loans.specs.Table.{keepsOf, Ordered}
+use Rattle.model.proofs.Invariant.{passed, blocked}
+use Rattle.model.proofs.Ends.{judged-number}
+use Rattle.loans.specs.Table.{Ordered}
 use Rattle.loans.proofs.Table.{ordered}
 use Rattle.chains.specs.Ready.{Ready, Accepted}
 
--- a row of the table that does not hold
-past : (n : ℕ) (b : Bool) (m : ℕ) → cond b (suc n) m ≡ 0 → (b ≡ false) × (m ≡ 0)
-past n true m e = absurd (omega arith)
-past n false m e = (refl, e)
+-- what the table of answers lets through
+pub accepted : (s : Images) (a : Arguments) (f : Facts) (r : Answer) (m : ℕ) → Ready s a → f ≡ chainFacts s a → r ≡ answerFor (table f a) → m ≡ numberOf r → m ≡ 0
+    → Accepted s a
+accepted s a f r m k e p q h = record { ready = k; free = sym (ap (λ g. table g a) e) ∙ sym (judged-number chainUnit s a f r p) ∙ sym q ∙ h }
 
-unfull : (f : Facts) (b p o r d : ℕ) → table f (Lend b p o r d) ≡ 0 → f .full ≡ false
-unfull f b p o r d k = past 9 (f .full) 0 (past 8 (eqb r 0) _ (passed 4 (f .on && f .to) _ (passed 3 (f .by) _ k .1) .1) .1) .0
+-- row 10 of the table does not hold
+unfull : (f : Facts) (a : Arguments) → table f a ≡ 0 → knows (a .verb) 10 && f .full ≡ false
+unfull f a k =
+    let p5 = blocked 4 (knows (a .verb) 5 && not (f .on && f .to)) _ (passed 3 (f .by) _ k .1) in
+    let p6 = blocked 5 (knows (a .verb) 6 && f .on) _ (p5 .1) in
+    let p7 = blocked 6 (knows (a .verb) 7 && eqb (a .on) 0) _ (p6 .1) in
+    let p8 = blocked 7 (knows (a .verb) 8 && not (f .edits)) _ (p7 .1) in
+    let p9 = blocked 8 (knows (a .verb) 9 && eqb (a .right) 0) _ (p8 .1) in
+    blocked 9 (knows (a .verb) 10 && f .full) 0 (p9 .1) .0
 
-module _ (s : Images) (c : Command) where
-  -- what the table of answers lets through
-  pub accepted : (f : Facts) (n m : ℕ) → Ready s c → f ≡ chainFacts s c → n ≡ table f c → m ≡ n → m ≡ 0 → Accepted s c
-  accepted f n m r e a q h = record { ready = r; free = sym (ap (λ g. table g c) e) ∙ sym a ∙ sym q ∙ h }
+-- what the arm of a verb leaves is what the command leaves
+pub arm : (s x : Images) (a : Arguments) (v : Verb) → a .verb ≡ v → x ≡ chainDone s a v → x ≡ chainAfter s a
+arm s x a v e p = p ∙ sym (ap (chainDone s a) e)
 
-module _ (g t : List ℕ) where
-  -- a command that leaves the loans as they are
-  pub of-grants : (x : List ℕ) (v w : Typed) → v ≡ w → x ≡ after grantBytes g (rawOf w) → loansAfter t (rawOf w) ≡ t
-      → images x t ≡ chainAfter (images g t) (rawOf v)
-  of-grants x v w e p q = (λ j. images (p j) (sym q j)) ∙ sym (ap (λ u. chainAfter (images g t) (rawOf u)) e)
+-- a loan that was accepted has room
+pub room : (g t : List ℕ) (a : Arguments) (w : ℕ) → w ≡ wordOf (loanIn a) → a .verb ≡ verb.Lend → Accepted (images g t) a
+    → Ordered t × ((leb mostLoans (countOf t) && not (any (eqb w) (used t))) ≡ false)
+room g t a w q e k = (
+  ordered (liveIn grantBytes g) t (k .ready .loans) (snd (inOrder grantBytes g) _ (k .ready .ordered)),
+  subst (λ x. (leb mostLoans (countOf t) && not (any (eqb x) (used t))) ≡ false) (sym q)
+      (subst (λ v. (knows v 10 && chainFacts (images g t) a .full) ≡ false) e (unfull (chainFacts (images g t) a) a (k .free))),
+)
 
-  pub of-both : (x : Images) (v w : Typed) → v ≡ w → x ≡ chainAfter (images g t) (rawOf w) → x ≡ chainAfter (images g t) (rawOf v)
-  of-both x v w e p = p ∙ sym (ap (λ u. chainAfter (images g t) (rawOf u)) e)
+-- both images after a step each
+pub stepped : {x y : List ℕ} (s : Images) → x ≡ s .grants → y ≡ s .loans → images x y ≡ s
+stepped s p q = λ j. images (p j) (q j)
 
-  pub deleted : (x y : List ℕ) (on : Item) → length t ≡ 1025 → x ≡ after grantBytes g (Delete 0 (on .0))
-      → y ≡ cond (eqb (length t) 1025) (loansImage (keep (keepsOf (Without on)) (used t))) t → images x y ≡ chainAfter (images g t) (Delete 0 (on .0))
-  deleted x y on l p q =
-      let e : y ≡ loansAfter t (Delete 0 (on .0)) = q ∙ rw (eq-eqb (length t) 1025 l) in
-      λ j. images (p j) (e j)
-
-  module _ (v : Typed) (b p o : Item) (r : Right) (d : Depth) (w : ℕ) (q : w ≡ wordOf (loanIn (rawOf v))) where
-    -- a loan that was accepted has room
-    pub room : v ≡ typed.Lend b p o r d → Accepted (images g t) (rawOf v)
-        → Ordered t × ((leb 1024 (countOf t) && not (any (eqb w) (used t))) ≡ false)
-    room e a =
-        let k : table (chainFacts (images g t) (rawOf (typed.Lend b p o r d))) (rawOf (typed.Lend b p o r d)) ≡ 0
-        = subst (λ u. table (chainFacts (images g t) (rawOf u)) (rawOf u) ≡ 0) e (a .free) in
-        let f = unfull (chainFacts (images g t) (rawOf (typed.Lend b p o r d))) (b .0) (p .0) (o .0) (r .0) (d .0) k in (
-          ordered (liveIn grantBytes g) t (a .ready .loans) (snd (inOrder grantBytes g) _ (a .ready .ordered)),
-          subst (λ x. (leb 1024 (countOf t) && not (any (eqb x) (used t))) ≡ false) (sym (q ∙ ap (λ u. wordOf (loanIn (rawOf u))) e)) f,
-        )
-
-    pub lent : (y : List ℕ) → v ≡ typed.Lend b p o r d → y ≡ loansImage (insert w (used t)) → images g y ≡ chainAfter (images g t) (rawOf v)
-    lent y e h =
-        of-both (images g y) v (typed.Lend b p o r d) e
-        (ap (images g) (h ∙ ap (λ x. loansImage (insert x (used t))) (q ∙ ap (λ u. wordOf (loanIn (rawOf u))) e)))
-
-    pub recalled : (y : List ℕ) → v ≡ typed.Recall b p o r d → length t ≡ 1025
-        → y ≡ cond (eqb (length t) 1025) (loansImage (keep (keepsOf (Other w)) (used t))) t → images g y ≡ chainAfter (images g t) (rawOf v)
-    recalled y e l h =
-        let k : y ≡ loansImage (keep (keepsOf (Other w)) (used t)) = h ∙ rw (eq-eqb (length t) 1025 l) in
-        of-both (images g y) v (typed.Recall b p o r d) e
-        (ap (images g) (k ∙ ap (λ x. loansImage (keep (keepsOf (Other x)) (used t))) (q ∙ ap (λ u. wordOf (loanIn (rawOf u))) e)))
+-- what a pass over a table of the right length leaves
+pub kept-table : (t y z : List ℕ) → length t ≡ tableWords → y ≡ cond (eqb (length t) tableWords) z t → y ≡ z
+kept-table t y z l e = e ∙ rw (eq-eqb (length t) tableWords l)

@@ -11,21 +11,26 @@ use model::Item;
 use model::Question;
 use model::Right;
 use model::Typed;
+use model::Verb;
 use model::Within;
 use model::judge;
 use model::live;
+use model::loan;
 ghost use mathlib.Core.Path.{_≡_};
-ghost use mathlib.Core.Bool.{true};
+ghost use mathlib.Core.Bool.{true, not};
 ghost use Prim.Native.Nat.{_<_};
+ghost use lib.Dec.{eqb};
 ghost use lib.ListN.{length};
 ghost use Rattle.model.specs.declared.Command.the-variants.{Create, Delete, Allow, Withdraw, Lend, Recall};
 ghost use Rattle.model.specs.Commands.{Ranged, rawOf};
 ghost use Rattle.model.specs.Answers.{numberOf};
+ghost use Rattle.model.specs.Machine.{Judged, Ran};
 ghost use Rattle.model.specs.Journal.{loanIn};
-ghost use Rattle.model.specs.Loans.{wordOf};
+ghost use Rattle.model.specs.Unit.{grantCells};
+ghost use Rattle.model.specs.Loans.{wordOf, tableWords, loansKept};
 ghost use Rattle.model.specs.Images.{images};
-ghost use Rattle.model.specs.ChainUnit.{chainGuarded, chainFacts, chainAfter, ChainJudged, ChainRan, ChainChecks, chainFreshNumber, chainFreshOf};
-ghost use Rattle.chains.specs.Ready.{Ready, Accepted};
+ghost use Rattle.model.specs.ChainUnit.{chainUnit, chainGuarded, chainFacts, chainAfter, ChainChecks, ChainInspects, ChainFreshens};
+ghost use Rattle.chains.specs.Ready.{Ready, Accepted, withoutItem};
 
 // The bytes of a chain buffer.
 const PERSONS: usize = 8;
@@ -33,8 +38,7 @@ const PERSONS: usize = 8;
 // Number 1 alone: whatever the buffers held is overwritten. The small state that is written is that of `Grants::fresh` and
 // `Loans::fresh`.
 pub fn fresh(image: &mut [u8], table: &mut [u32]) -> Answer
-    ensures { λ r. ⌜ (numberOf r ≡ chainFreshNumber (images (now (image .entry)) (now (table .entry))))
-        × (images (now (image .exit)) (now (table .exit)) ≡ chainFreshOf (images (now (image .entry)) (now (table .entry)))) ⌝ }
+    ensures { λ r. ⌜ ChainFreshens (images (now (image .entry)) (now (table .entry))) r (images (now (image .exit)) (now (table .exit))) ⌝ }
 {
     if image.len() != Grants::BYTES {
         return Answer::WrongLength;
@@ -75,12 +79,12 @@ fn code(t: Typed) -> u32
     requires { ⌜ Ranged (rawOf t) ⌝ }
     ensures { λ r. ⌜ r ≡ wordOf (loanIn (rawOf t)) ⌝ }
 {
-    let by = t.by();
-    let on = t.on();
-    let right = t.right();
-    let to = t.to();
-    let depth = t.depth();
-    loans::code_of(by, on, right, to, depth)
+    let by = t.by;
+    let on = t.on;
+    let right = t.right;
+    let to = t.to;
+    let depth = t.depth;
+    loan::word(by, on, right, to, depth)
 }
 
 // What the table of answers asks of the images.
@@ -88,9 +92,9 @@ fn facts(image: &[u8], table: &[u32], t: Typed) -> Facts
     requires { ⌜ Ready (images (now image) (now table)) (rawOf t) ⌝ }
     ensures { λ r. ⌜ r ≡ chainFacts (images (now (image .entry)) (now (table .entry))) (rawOf t) ⌝ }
 {
-    let by = t.by();
-    let on = t.on();
-    let to = t.to();
+    let by = t.by;
+    let on = t.on;
+    let to = t.to;
     let edit = Right::edit();
     let w = code(t);
     Facts {
@@ -104,11 +108,19 @@ fn facts(image: &[u8], table: &[u32], t: Typed) -> Facts
 
 // The item's grants and name, then the loans that name it.
 fn drop_item(image: &mut [u8], table: &mut [u32], on: Item)
-    requires { ⌜ (length (now image) ≡ 32776) × (length (now table) ≡ 1025) × (on .0 < 64) ⌝ }
-    ensures { λ _. ⌜ images (now (image .exit)) (now (table .exit)) ≡ chainAfter (images (now (image .entry)) (now (table .entry))) (Delete 0 (on .0)) ⌝ }
+    requires { ⌜ (length (now image) ≡ grantCells) × (length (now table) ≡ tableWords) × (on .0 < 64) ⌝ }
+    ensures { λ _. ⌜ images (now (image .exit)) (now (table .exit)) ≡ withoutItem (images (now (image .entry)) (now (table .entry))) (on .0) ⌝ }
 {
     grants::drop_item(image, on);
     loans::retain(table, Rule::Without(on));
+}
+
+// The loan out of the table.
+fn drop_loan(table: &mut [u32], w: u32)
+    requires { ⌜ length (now table) ≡ tableWords ⌝ }
+    ensures { λ _. ⌜ now (table .exit) ≡ loansKept (λ x. not (eqb w x)) (now (table .entry)) ⌝ }
+{
+    loans::retain(table, Rule::Other(w));
 }
 
 // What an accepted command does.
@@ -116,26 +128,21 @@ fn apply(image: &mut [u8], table: &mut [u32], t: Typed)
     requires { ⌜ Accepted (images (now image) (now table)) (rawOf t) ⌝ }
     ensures { λ _. ⌜ images (now (image .exit)) (now (table .exit)) ≡ chainAfter (images (now (image .entry)) (now (table .entry))) (rawOf t) ⌝ }
 {
-    match t {
-        Typed::Create { by, on } => grants::put_item(image, by, on),
-        Typed::Delete { on, .. } => drop_item(image, table, on),
-        Typed::Allow {
-            to,
-            on,
-            right,
-            depth,
-            ..
-        } => grants::put_grant(image, to, on, right, depth),
-        Typed::Withdraw { to, on, right, .. } => grants::drop_grants(image, to, on, right),
-        Typed::Lend { .. } => loans::insert(table, code(t)),
-        Typed::Recall { .. } => loans::retain(table, Rule::Other(code(t))),
+    let verb = t.verb;
+    match verb {
+        Verb::Create => grants::put_item(image, t.by, t.on),
+        Verb::Delete => drop_item(image, table, t.on),
+        Verb::Allow => grants::put_grant(image, t.to, t.on, t.right, t.depth),
+        Verb::Withdraw => grants::drop_grants(image, t.to, t.on, t.right),
+        Verb::Lend => loans::insert(table, code(t)),
+        Verb::Recall => drop_loan(table, code(t)),
     }
 }
 
 // Numbers 4 to 10, and what follows.
 fn settle(image: &mut [u8], table: &mut [u32], t: Typed) -> Answer
     requires { ⌜ Ready (images (now image) (now table)) (rawOf t) ⌝ }
-    ensures { λ r. ⌜ ChainJudged (images (now (image .entry)) (now (table .entry))) (rawOf t) (numberOf r) (images (now (image .exit)) (now (table .exit))) ⌝ }
+    ensures { λ r. ⌜ Judged chainUnit (images (now (image .entry)) (now (table .entry))) (rawOf t) (numberOf r) (images (now (image .exit)) (now (table .exit))) ⌝ }
 {
     let f = facts(image, table, t);
     let a = judge(t, f);
@@ -149,7 +156,7 @@ fn settle(image: &mut [u8], table: &mut [u32], t: Typed) -> Answer
 
 // Any command, from the numbers that arrived; a chain unit has them all.
 pub fn offer(image: &mut [u8], table: &mut [u32], c: Command) -> Answer
-    ensures { λ r. ⌜ ChainRan (images (now (image .entry)) (now (table .entry))) c (numberOf r) (images (now (image .exit)) (now (table .exit))) ⌝ }
+    ensures { λ r. ⌜ Ran chainUnit (images (now (image .entry)) (now (table .entry))) c r (images (now (image .exit)) (now (table .exit))) ⌝ }
 {
     let a = order(image, table, true);
     if a.number() != 0 {
@@ -163,13 +170,13 @@ pub fn offer(image: &mut [u8], table: &mut [u32], c: Command) -> Answer
 }
 
 pub fn create(image: &mut [u8], table: &mut [u32], by: u32, on: u32) -> Answer
-    ensures { λ r. ⌜ ChainRan (images (now (image .entry)) (now (table .entry))) (Create by on) (numberOf r) (images (now (image .exit)) (now (table .exit))) ⌝ }
+    ensures { λ r. ⌜ Ran chainUnit (images (now (image .entry)) (now (table .entry))) (Create by on) r (images (now (image .exit)) (now (table .exit))) ⌝ }
 {
     offer(image, table, Command::Create { by, on })
 }
 
 pub fn delete(image: &mut [u8], table: &mut [u32], by: u32, on: u32) -> Answer
-    ensures { λ r. ⌜ ChainRan (images (now (image .entry)) (now (table .entry))) (Delete by on) (numberOf r) (images (now (image .exit)) (now (table .exit))) ⌝ }
+    ensures { λ r. ⌜ Ran chainUnit (images (now (image .entry)) (now (table .entry))) (Delete by on) r (images (now (image .exit)) (now (table .exit))) ⌝ }
 {
     offer(image, table, Command::Delete { by, on })
 }
@@ -183,7 +190,7 @@ pub fn allow(
     right: u32,
     depth: u32,
 ) -> Answer
-    ensures { λ r. ⌜ ChainRan (images (now (image .entry)) (now (table .entry))) (Allow by to on right depth) (numberOf r) (images (now (image .exit)) (now (table .exit))) ⌝ }
+    ensures { λ r. ⌜ Ran chainUnit (images (now (image .entry)) (now (table .entry))) (Allow by to on right depth) r (images (now (image .exit)) (now (table .exit))) ⌝ }
 {
     offer(
         image,
@@ -206,7 +213,7 @@ pub fn withdraw(
     on: u32,
     right: u32,
 ) -> Answer
-    ensures { λ r. ⌜ ChainRan (images (now (image .entry)) (now (table .entry))) (Withdraw by to on right) (numberOf r) (images (now (image .exit)) (now (table .exit))) ⌝ }
+    ensures { λ r. ⌜ Ran chainUnit (images (now (image .entry)) (now (table .entry))) (Withdraw by to on right) r (images (now (image .exit)) (now (table .exit))) ⌝ }
 {
     offer(image, table, Command::Withdraw { by, to, on, right })
 }
@@ -220,7 +227,7 @@ pub fn lend(
     right: u32,
     depth: u32,
 ) -> Answer
-    ensures { λ r. ⌜ ChainRan (images (now (image .entry)) (now (table .entry))) (Lend by to on right depth) (numberOf r) (images (now (image .exit)) (now (table .exit))) ⌝ }
+    ensures { λ r. ⌜ Ran chainUnit (images (now (image .entry)) (now (table .entry))) (Lend by to on right depth) r (images (now (image .exit)) (now (table .exit))) ⌝ }
 {
     offer(
         image,
@@ -244,7 +251,7 @@ pub fn recall(
     right: u32,
     depth: u32,
 ) -> Answer
-    ensures { λ r. ⌜ ChainRan (images (now (image .entry)) (now (table .entry))) (Recall by to on right depth) (numberOf r) (images (now (image .exit)) (now (table .exit))) ⌝ }
+    ensures { λ r. ⌜ Ran chainUnit (images (now (image .entry)) (now (table .entry))) (Recall by to on right depth) r (images (now (image .exit)) (now (table .exit))) ⌝ }
 {
     offer(
         image,
@@ -282,17 +289,13 @@ pub fn check(
             who: p,
             on: i,
             right: r,
-        } => {
-            let f = search::best(image, table, p, i, r, chain);
-            f.checked()
-        }
+        } => search::best(image, table, p, i, r, chain),
     }
 }
 
 // Numbers 1 and 2 alone, for a caller that reads the images itself.
 pub fn inspect(image: &[u8], table: &[u32]) -> Answer
-    ensures { λ r. ⌜ (numberOf r ≡ chainGuarded (images (now (image .entry)) (now (table .entry))) true 0)
-        × (images (now (image .exit)) (now (table .exit)) ≡ images (now (image .entry)) (now (table .entry))) ⌝ }
+    ensures { λ r. ⌜ ChainInspects (images (now (image .entry)) (now (table .entry))) r (images (now (image .exit)) (now (table .exit))) ⌝ }
 {
     order(image, table, true)
 }

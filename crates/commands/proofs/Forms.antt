@@ -1,13 +1,12 @@
 -- Every line of the output has one of the forms that document 01 shows.
-use mathlib.Core.Path.{_≡_, refl, sym, subst}
+use mathlib.Core.Path.{_≡_, refl, sym, ap, _∙_, subst}
 use mathlib.Core.Bool.{Bool, true, false, cond}
 use mathlib.Core.List.{List, [], _∷_, _++_}
 use Prim.Native.Nat.{ℕ, _+_}
 use lib.ListN.{length, length-map}
 use lib.Seq.{take-length}
-use Rattle.model.specs.Answers.{answer, asked}
-use Rattle.model.specs.Journal.{Journal, facts, hasGrant}
-use Rattle.model.specs.Unit.{flat}
+use Rattle.model.specs.Answers.{asked, flat}
+use Rattle.model.specs.Journal.{Journal, answered, step, hasGrant}
 use Rattle.model.specs.Chain.{granted, lent}
 use Rattle.model.specs.Agreement.{JournalChain}
 use Rattle.lines.specs.declared.Parsed.{Parsed}
@@ -18,7 +17,7 @@ use Rattle.lines.specs.Collect.{linesOf, parsedOf}
 use Rattle.commands.specs.Output.{saidText, persons, tailText, outputLine, reply, offeredSaid}
 use Rattle.commands.specs.Program.{outputOf}
 use Rattle.commands.specs.Text as text
-use Rattle.commands.specs.Text.{grantSaid, CheckLine, LineAllowed, Allowed}
+use Rattle.commands.specs.Text.{grantSaid, commandLine, CheckLine, LineAllowed, journalAfter, Allowed}
 use Rattle.commands.specs.Forms.{Form, numbers, passed, refused, no, yes, Formed, last, next}
 use Rattle.commands.proofs.Text.{text-agreement}
 
@@ -51,23 +50,27 @@ chain-some : (j : Journal) (o r : ℕ) {ps : List ℕ} {p a : ℕ} → JournalCh
 chain-some j o r (granted {p} h) = (p, [], refl)
 chain-some j o r (lent {ps} l s c) = some ps (l .borrower)
 
-check-form : {j : Journal} {n p o r : ℕ} {t : List ℕ} → CheckLine j n p o r t → Form n t
-check-form {j} {n} {p} {o} {r} (text.refused h) = refused-form n (asked p o r)
-check-form {j} {n} {p} {o} {r} (text.none e h) = none-form n (hasGrant j p o r)
-check-form {j} {n} {p} {o} {r} (text.found e g) =
+check-form : {j k : Journal} {n p o r : ℕ} {t : List ℕ} → CheckLine j k n p o r t → Form n t
+check-form {j} {k} {n} {p} {o} {r} (text.refused h) = refused-form n (asked p o r)
+check-form {j} {k} {n} {p} {o} {r} (text.none e h) = none-form n (hasGrant k p o r)
+check-form {j} {k} {n} {p} {o} {r} (text.found e g) =
     let s = chain-some j o r (g .chain) in
-    subst (λ (ps : List ℕ). Form n (outputLine n (reply (grantSaid j p o r) (grantSaid j p o r) Yes (Chain (g .depth) (length ps))) ps)) (sym (s .2))
-    (found-form n (hasGrant j p o r) (g .depth) (s .0) (s .1))
+    subst (λ (ps : List ℕ). Form n (outputLine n (reply (grantSaid k p o r) (grantSaid k p o r) Yes (Chain (g .depth) (length ps))) ps)) (sym (s .2))
+    (found-form n (hasGrant k p o r) (g .depth) (s .0) (s .1))
 
-line-form : (j : Journal) (n : ℕ) (x : Parsed) (t : List ℕ) → LineAllowed j n x t → Form n t
-line-form j n (Run c) t e = subst (Form n) (sym e) (command-form n (flat c) (answer (facts j c) c))
-line-form j n (Ask who on right) t e = check-form e
-line-form j n Malformed t e = subst (Form n) (sym e) (command-form n true 11)
+-- where one journal stands for all
+line-form : (j k : Journal) → k ≡ j → (n : ℕ) (x : Parsed) (t : List ℕ) → LineAllowed j k n x t → Form n t
+line-form j k q n (Run c) t e = subst (Form n) (sym (e ∙ ap (λ i. commandLine j i n c) q)) (command-form n (flat c) (answered j c))
+line-form j k q n (Ask who on right) t e = check-form e
+line-form j k q n Malformed t e = subst (Form n) (sym e) (command-form n true 11)
 
-formed : {j : Journal} {n : ℕ} {xs : List Parsed} {t : List ℕ} → Allowed j n xs t → Formed n (length xs) t
-formed text.last = last
-formed {j} {n} (text.next {x = x} t a rest) = next t (line-form j (n + 1) x t a) (formed rest)
+after-same : (j k : Journal) (x : Parsed) → k ≡ j → journalAfter step k x ≡ journalAfter step j x
+after-same j k x q = ap (λ i. journalAfter step i x) q
+
+formed : {j k : Journal} {n : ℕ} {xs : List Parsed} {t : List ℕ} → k ≡ j → Allowed step j k n xs t → Formed n (length xs) t
+formed q text.last = last
+formed {j} {k} {n} q (text.next {x = x} t a rest) = next t (line-form j k q (n + 1) x t a) (formed (after-same j k x q) rest)
 
 -- one line of output for each line of input, and the last
 pub output-formed : (input : List ℕ) → Formed 0 (length (linesOf input)) (outputOf input)
-output-formed input = subst (λ (k : ℕ). Formed 0 k (outputOf input)) (length-map (linesOf input) parsedOf) (formed (text-agreement input))
+output-formed input = subst (λ (k : ℕ). Formed 0 k (outputOf input)) (length-map (linesOf input) parsedOf) (formed refl (text-agreement input))

@@ -5,42 +5,45 @@ use Prim.Native.Nat.{ℕ}
 use borrow.Author.Tests.{eq-eqb, eqb-true}
 use lib.ListN.{length}
 use lib.Dec.{eqb}
-use Rattle.model.specs.Unit.{lists, rows, freshImage, freshOf}
+use Rattle.model.specs.declared.Answer.{Answer}
+use Rattle.model.specs.declared.Answer.the-variants as is
+use Rattle.model.specs.Unit.{listWords, rowBytes, grantCells, lists, rows, Freshens}
+use Rattle.model.specs.Loans.{tableWords}
 use Rattle.model.specs.Images.{images}
-use Rattle.model.specs.ChainUnit.{chainFreshNumber, chainFreshOf}
+use Rattle.model.specs.ChainUnit.{ChainFreshens}
 use Rattle.model.specs.Agreement.{Units, freshUnits}
 use Rattle.model.proofs.Sets.{by-cases, fst, snd}
-use Rattle.model.proofs.Ends.{fresh-done}
-use Rattle.commands.specs.Session.{unitsIn, sized, startNumber, startOf}
+use Rattle.model.proofs.Answers.{numbered}
+use Rattle.commands.specs.Session.{unitsIn, sized, startNumber, startOf, Starts}
 
 -- every buffer has its length
 abbrev pub Sized : Units → Type 0
-Sized u = (length (u .lists) ≡ 513) × (length (u .rows) ≡ 4104) × (length (u .chains .grants) ≡ 32776) × (length (u .chains .loans) ≡ 1025)
+Sized u = (length (u .lists) ≡ listWords) × (length (u .rows) ≡ rowBytes) × (length (u .chains .grants) ≡ grantCells) × (length (u .chains .loans) ≡ tableWords)
 
-pub start-refused : (u : Units) → (Sized u → ⊥) → (1 ≡ startNumber u) × (u ≡ startOf u)
+pub start-refused : (u : Units) → (Sized u → ⊥) → Starts u is.WrongLength u
 unfolding startNumber startOf
 start-refused u h =
     by-cases (sized u)
     (λ q.
-    let a = fst (eqb (length (u .lists)) 513) _ q in
-    let q2 = snd (eqb (length (u .lists)) 513) _ q in
-    let b = fst (eqb (length (u .rows)) 4104) _ q2 in
-    let q3 = snd (eqb (length (u .rows)) 4104) _ q2 in
-    let c = fst (eqb (length (u .chains .grants)) 32776) (eqb (length (u .chains .loans)) 1025) q3 in
-    let d = snd (eqb (length (u .chains .grants)) 32776) (eqb (length (u .chains .loans)) 1025) q3 in
-    absurd (h (eqb-true _ 513 a, eqb-true _ 4104 b, eqb-true _ 32776 c, eqb-true _ 1025 d)))
-    (λ q. rw q (refl, refl))
+    let a = fst (eqb (length (u .lists)) listWords) _ q in
+    let q2 = snd (eqb (length (u .lists)) listWords) _ q in
+    let b = fst (eqb (length (u .rows)) rowBytes) _ q2 in
+    let q3 = snd (eqb (length (u .rows)) rowBytes) _ q2 in
+    let c = fst (eqb (length (u .chains .grants)) grantCells) (eqb (length (u .chains .loans)) tableWords) q3 in
+    let d = snd (eqb (length (u .chains .grants)) grantCells) (eqb (length (u .chains .loans)) tableWords) q3 in
+    absurd (h (eqb-true _ listWords a, eqb-true _ rowBytes b, eqb-true _ grantCells c, eqb-true _ tableWords d)))
+    (λ q. rw q (numbered is.WrongLength 1 refl, refl))
 
-pub start-done : (u : Units) → Sized u → (n : ℕ) (x y g t : List ℕ) → x ≡ freshOf lists (u .lists) → y ≡ freshOf rows (u .rows) → n ≡ chainFreshNumber (u .chains)
-    → images g t ≡ chainFreshOf (u .chains) → (n ≡ startNumber u) × (unitsIn x y g t ≡ startOf u)
+pub start-done : (u : Units) → Sized u → (l r a : Answer) (x y g t : List ℕ) → Freshens lists (u .lists) l x → Freshens rows (u .rows) r y
+    → ChainFreshens (u .chains) a (images g t) → Starts u a (unitsIn x y g t)
 unfolding startNumber startOf freshUnits lists rows
-start-done u h n x y g t hx hy hn hz =
-    let a = eq-eqb (length (u .lists)) 513 (h .0) in
-    let b = eq-eqb (length (u .rows)) 4104 (h .1) in
-    let c = eq-eqb (length (u .chains .grants)) 32776 (h .2) in
-    let d = eq-eqb (length (u .chains .loans)) 1025 (h .3) in
-    let x′ = hx ∙ sym (fresh-done lists (u .lists) (freshImage lists) (h .0) refl .1) in
-    let y′ = hy ∙ sym (fresh-done rows (u .rows) (freshImage rows) (h .1) refl .1) in
-    let n′ = rw (c, d) at hn in
-    let z′ = rw (c, d) at hz in
-    rw (a, b, c, d) (n′, λ i. record { lists = x′ i; rows = y′ i; chains = z′ i })
+start-done u h l r a x y g t hx hy hz =
+    let d1 = eq-eqb (length (u .lists)) listWords (h .0) in
+    let d2 = eq-eqb (length (u .rows)) rowBytes (h .1) in
+    let d3 = eq-eqb (length (u .chains .grants)) grantCells (h .2) in
+    let d4 = eq-eqb (length (u .chains .loans)) tableWords (h .3) in
+    let x′ = rw d1 at (hx .1) in
+    let y′ = rw d2 at (hy .1) in
+    let n′ = rw (d3, d4) at (hz .0) in
+    let z′ = rw (d3, d4) at (hz .1) in
+    rw (d1, d2, d3, d4) (n′, λ i. record { lists = x′ i; rows = y′ i; chains = z′ i })

@@ -82,20 +82,20 @@ no-chain (granted {p} {e} h) =
 no-chain (lent l s c) = no-chain c
 
 -- ---- the output line by line
-record Next (line : List ℕ) (j : Journal) (n : ℕ) (xs : List Parsed) (t : List ℕ) : Type 0 where
+record Next (line : List ℕ) (j k : Journal) (n : ℕ) (xs : List Parsed) (t : List ℕ) : Type 0 where
   rest : List ℕ
   is : t ≡ line ++ rest
-  then : Allowed j n xs rest
+  then : Allowed step j k n xs rest
 
-next-command : {j : Journal} {n : ℕ} {c : Command} {xs : List Parsed} {t : List ℕ} → Allowed j n (Run c ∷ xs) t
-    → Next (commandLine j (n + 1) c) (step j c) (n + 1) xs t
+next-command : {j k : Journal} {n : ℕ} {c : Command} {xs : List Parsed} {t : List ℕ} → Allowed step j k n (Run c ∷ xs) t
+    → Next (commandLine j k (n + 1) c) (step j c) (step k c) (n + 1) xs t
 next-command (next {rest = rest} t e r) = record { rest = rest; is = ap (λ (l : List ℕ). l ++ rest) e; then = r }
 
-last-line : {j : Journal} {n : ℕ} {t : List ℕ} → Allowed j n [] t → t ≡ lastOutput n
+last-line : {j k : Journal} {n : ℕ} {t : List ℕ} → Allowed step j k n [] t → t ≡ lastOutput n
 last-line last = refl
 
 -- the first check finds the one chain, the second none
-first-check : (n : ℕ) (t : List ℕ) → CheckLine lent-journal n 4 9 1 t → t ≡ outputLine n (reply No No Yes (Chain 0 2)) (3 ∷ 4 ∷ [])
+first-check : (n : ℕ) (t : List ℕ) → CheckLine lent-journal lent-journal n 4 9 1 t → t ≡ outputLine n (reply No No Yes (Chain 0 2)) (3 ∷ 4 ∷ [])
 unfolding lent-journal fresh any keep add
 first-check n t (refused h) = absurd (h refl)
 first-check n t (none e h) = absurd (h (3 ∷ 4 ∷ []) 0 (lent (loan 3 9 1 4 0) (refl, refl, refl) (granted {p = 3} {e = 1} refl)))
@@ -103,14 +103,14 @@ first-check n t (found e g) =
     ⊎-elim (λ w. absurd (omega (arith, w .0)))
     (λ w. ap₂ (λ (d : ℕ) (ps : List ℕ). outputLine n (reply No No Yes (Chain d (length ps))) ps) (w .2) (w .1)) (only (g .chain))
 
-second-check : (n : ℕ) (t : List ℕ) → CheckLine withdrawn-journal n 4 9 1 t → t ≡ outputLine n (reply No No No Dashes) []
+second-check : (n : ℕ) (t : List ℕ) → CheckLine withdrawn-journal withdrawn-journal n 4 9 1 t → t ≡ outputLine n (reply No No No Dashes) []
 unfolding withdrawn-journal lent-journal fresh any keep add
 second-check n t (refused h) = absurd (h refl)
 second-check n t (none e h) = refl
 second-check n t (found e g) = absurd (no-chain (g .chain))
 
-next-check : {j : Journal} {n p o r : ℕ} {xs : List Parsed} {t : List ℕ} (line : List ℕ) → ((s : List ℕ) → CheckLine j (n + 1) p o r s → s ≡ line)
-    → Allowed j n (Ask p o r ∷ xs) t → Next line j (n + 1) xs t
+next-check : {j k : Journal} {n p o r : ℕ} {xs : List Parsed} {t : List ℕ} (line : List ℕ) → ((s : List ℕ) → CheckLine j k (n + 1) p o r s → s ≡ line)
+    → Allowed step j k n (Ask p o r ∷ xs) t → Next line j k (n + 1) xs t
 next-check line is (next {rest = rest} t e r) = record { rest = rest; is = ap (λ (l : List ℕ). l ++ rest) (is t e); then = r }
 
 after : (a : List ℕ) {b c : List ℕ} → b ≡ c → a ++ b ≡ a ++ c
@@ -124,7 +124,7 @@ pub listing-output :
     ++ bytes "line=8 list=no row=no chain=no depth=- via=-\nlines=8\n"
 unfolding lent-journal withdrawn-journal fresh any keep add outputLine saidText tailText persons morePersons newline lastOutput shown
 listing-output =
-    let h = subst (λ xs. Allowed fresh 0 xs (outputOf listing-input)) listing-asks (text-agreement listing-input) in
+    let h = subst (λ xs. Allowed step fresh fresh 0 xs (outputOf listing-input)) listing-asks (text-agreement listing-input) in
     let n1 = next-command h in
     let n2 = next-command (n1 .then) in
     let n3 = next-command (n2 .then) in

@@ -7,12 +7,12 @@ use lib.ListN.{length, take, replicate}
 use lib.Seq.{sets}
 use lib.Dec.{eqb, leb}
 use Rattle.model.specs.declared.Answer.the-variants as is
-use Rattle.model.specs.declared.Found.{Found}
 use Rattle.model.specs.declared.Offered.{Offered}
 use Rattle.model.specs.declared.Offered.the-variants as offered
-use Rattle.model.specs.Answers.{numberOf}
-use Rattle.model.specs.Unit.{lists, rows, flat, answerOf, checkNumber, checkYes}
-use Rattle.model.specs.ChainUnit.{chainAnswer, chainCheckNumber, chainFound, chainBuffer}
+use Rattle.model.specs.Answers.{Found, numberOf, flat}
+use Rattle.model.specs.Machine.{answerOf}
+use Rattle.model.specs.Unit.{lists, rows, flatUnit, checkNumber, checkYes}
+use Rattle.model.specs.ChainUnit.{chainUnit, chainCheckNumber, chainFound, chainBuffer}
 use Rattle.model.specs.Agreement.{Units, called}
 use Rattle.lines.specs.declared.Parsed.{Parsed}
 use Rattle.lines.specs.declared.Parsed.the-variants.{Run, Ask, Malformed}
@@ -115,7 +115,8 @@ lentBuffer = replicate 8 0
 -- the reply to what a line asks for: lists and rows pass over lend and recall; a check's numbers, yes or no, depth and chain
 unfoldable pub replyOf : Units → Parsed → Reply
 replyOf u (Run c) =
-    reply (offeredSaid (flat c) (answerOf lists (u .lists) c)) (offeredSaid (flat c) (answerOf rows (u .rows) c)) (Number (chainAnswer (u .chains) c)) Nothing
+    reply (offeredSaid (flat c) (answerOf (flatUnit lists) (u .lists) c)) (offeredSaid (flat c) (answerOf (flatUnit rows) (u .rows) c))
+    (Number (answerOf chainUnit (u .chains) c)) Nothing
 replyOf u (Ask who on right) =
     reply (checkSaid (checkNumber lists (u .lists) who on right) (checkYes lists (u .lists) who on right))
     (checkSaid (checkNumber rows (u .rows) who on right) (checkYes rows (u .rows) who on right))

@@ -5,6 +5,10 @@ use mathlib.Core.List.{List, [], _∷_, _++_}
 use Prim.Native.Nat.{ℕ, _+_, _≤_}
 use lib.ListN.{length}
 use lib.Dec.{eqb, leb, ltb}
+use Rattle.model.specs.declared.Answer.{Answer}
+use Rattle.model.specs.Answers.{Numbered}
+use Rattle.model.specs.Unit.{listWords, rowBytes, grantCells}
+use Rattle.model.specs.Loans.{tableWords}
 use Rattle.model.specs.Images.{images}
 use Rattle.model.specs.Agreement.{Units, freshUnits}
 use Rattle.lines.specs.declared.Parsed.{Parsed}
@@ -29,8 +33,8 @@ pub record Replies (u : Units) (x : Parsed) (r : Reply) (via : List ℕ) (u′ :
 -- the buffers of the three units have their lengths
 abbrev pub sized : Units → Bool
 sized u =
-    eqb (length (u .lists)) 513
-    && (eqb (length (u .rows)) 4104 && (eqb (length (u .chains .grants)) 32776 && eqb (length (u .chains .loans)) 1025))
+    eqb (length (u .lists)) listWords
+    && (eqb (length (u .rows)) rowBytes && (eqb (length (u .chains .grants)) grantCells && eqb (length (u .chains .loans)) tableWords))
 
 -- 'making a fresh unit knows 1 alone': three units made fresh, or nothing changed
 unfoldable pub startNumber : Units → ℕ
@@ -39,6 +43,10 @@ startNumber u = cond (sized u) 0 1
 -- and the units then
 unfoldable pub startOf : Units → Units
 startOf u = cond (sized u) freshUnits u
+
+-- answer r and units x of making the three units fresh
+abbrev pub Starts : Units → Answer → Units → Type 0
+Starts u r x = Numbered r (startNumber u) × (x ≡ startOf u)
 
 -- ---- a run of the program
 -- how many lines ended, the units, and the line buffer with what is held in it

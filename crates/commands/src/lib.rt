@@ -8,11 +8,9 @@ pub mod output;
 pub mod reply;
 pub mod stream;
 
-ghost use mathlib.Core.Path.{_≡_};
-ghost use Rattle.model.specs.Answers.{numberOf};
 ghost use Rattle.lines.specs.declared.Parsed.the-variants.{Run, Ask};
 ghost use Rattle.commands.specs.Output.{lentBuffer};
-ghost use Rattle.commands.specs.Session.{unitsIn, Replies, startNumber, startOf};
+ghost use Rattle.commands.specs.Session.{unitsIn, Replies, Starts};
 
 // A reply, and the chain buffer after the line.
 pub struct Replied {
@@ -22,8 +20,8 @@ pub struct Replied {
 
 // Makes the three units fresh; number 1 alone, and then nothing is changed.
 pub fn fresh(list: &mut [u64], row: &mut [u8], image: &mut [u8], table: &mut [u32]) -> Answer
-    ensures { λ r. ⌜ (numberOf r ≡ startNumber (unitsIn (now (list .entry)) (now (row .entry)) (now (image .entry)) (now (table .entry))))
-        × (unitsIn (now (list .exit)) (now (row .exit)) (now (image .exit)) (now (table .exit)) ≡ startOf (unitsIn (now (list .entry)) (now (row .entry)) (now (image .entry)) (now (table .entry)))) ⌝ }
+    ensures { λ r. ⌜ Starts (unitsIn (now (list .entry)) (now (row .entry)) (now (image .entry)) (now (table .entry))) r
+        (unitsIn (now (list .exit)) (now (row .exit)) (now (image .exit)) (now (table .exit))) ⌝ }
 {
     if list.len() != lists::Lists::WORDS {
         return Answer::WrongLength;

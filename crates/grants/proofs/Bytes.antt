@@ -8,11 +8,11 @@ use native.Mathlib.Omega.{arith}
 use borrow.Author.Tests.{eqb-true, eq-eqb, ne-eqb, leb-true}
 use lib.ListN.{length, getD, set}
 use lib.Dec.{eqb, leb}
-use Rattle.model.specs.declared.Command.the-variants.{Create, Delete, Allow, Withdraw}
+use Rattle.model.specs.Journal.{grant}
 use Rattle.model.specs.Bits.{bit, withBit}
 use Rattle.model.specs.Cells.{at}
 use Rattle.model.specs.Zeros.{zeroed, spaced}
-use Rattle.model.specs.Unit.{grantBytes, depths, held, after}
+use Rattle.model.specs.Unit.{grantBytes, grantCells, depths, held, created, deleted, allowed, withdrawn}
 use Rattle.model.proofs.Sets.{iff, fst, snd, both, any-cong}
 use Rattle.model.proofs.Unit.{bytes-laws, small}
 use Rattle.model.proofs.Edits.{Cells, marked, cleared, at-cell, allow-is, create-is}
@@ -42,27 +42,27 @@ about p o r i a b c u =
     let z = eqb-true (i / 512 % 8) r (snd (eqb (i / 8 % 64) p && eqb (i / 4096) o) _ t) in
     eq-eqb ((64 + i) / 8) (byteAt p o r) (omega arith))
 
-module _ (s : List ℕ) (l : length s ≡ 32776) (h : Cells 8 s) where
+module _ (s : List ℕ) (l : length s ≡ grantCells) (h : Cells 8 s) where
   module _ (p o r : ℕ) (a : p < 64) (b : o < 64) (c : r < 8) (k : ℕ) (e : k ≡ byteAt p o r) where
     -- i is the depth as the code has it, v the byte that it puts
-    pub grants-allow : (d i v : ℕ) → d < 8 → i ≡ d → v ≡ withBit (getD s k 0) (i % 8) → set s k v ≡ after grantBytes s (Allow 0 p o r d)
+    pub grants-allow : (d i v : ℕ) → d < 8 → i ≡ d → v ≡ withBit (getD s k 0) (i % 8) → set s k v ≡ allowed grantBytes s (grant p o r d)
     unfolding grantBytes
     grants-allow d i v m f g =
-        rw (g, f) (allow-is grantBytes bytes-laws s l h 0 p o r d k (d % 8) a b c m (omega arith) (omega arith))
+        rw (g, f) (allow-is grantBytes bytes-laws s l h p o r d k (d % 8) a b c m (omega arith) (omega arith))
 
-    pub grants-withdraw : set s k 0 ≡ after grantBytes s (Withdraw 0 p o r)
+    pub grants-withdraw : set s k 0 ≡ withdrawn grantBytes s p o r
     unfolding grantBytes
     grants-withdraw =
         rw e
-        (withdraw-cell grantBytes bytes-laws s l h 0 p o r (byteAt p o r) (omega arith) (λ i u. ne-eqb (i / 8) (byteAt p o r) (λ z. omega arith))
+        (withdraw-cell grantBytes bytes-laws s l h p o r (byteAt p o r) (omega arith) (λ i u. ne-eqb (i / 8) (byteAt p o r) (λ z. omega arith))
         (λ i u. about p o r i a b c u))
 
   -- delete: the item out of the live set, its block, then its byte as a person in each row
-  deleted : (on : ℕ) → on < 64
-      → zeroed (spaced (8 + on) 64 512) (zeroed (spaced (8 + 512 * on) 1 512) (cleared s (on / 8) (on % 8))) ≡ after grantBytes s (Delete 0 on)
+  all-deleted : (on : ℕ) → on < 64
+      → zeroed (spaced (8 + on) 64 512) (zeroed (spaced (8 + 512 * on) 1 512) (cleared s (on / 8) (on % 8))) ≡ deleted grantBytes s on
   unfolding grantBytes
-  deleted on o =
-      delete-cells grantBytes bytes-laws s l h 0 on (on / 8) (on % 8) (spaced (8 + 512 * on) 1 512) (spaced (8 + on) 64 512) o (omega arith) (omega arith) (omega arith)
+  all-deleted on o =
+      delete-cells grantBytes bytes-laws s l h on (on / 8) (on % 8) (spaced (8 + 512 * on) 1 512) (spaced (8 + on) 64 512) o (omega arith) (omega arith) (omega arith)
       (λ i u. rw (spaced-before (8 + 512 * on) 1 512 (i / 8) (omega arith), spaced-before (8 + on) 64 512 (i / 8) (omega arith)))
       (λ i u. let e : (64 + i) / 8 ≡ 8 + i / 8 = omega arith in
       let q : i / 8 / 512 ≡ i / 4096 = omega arith in
@@ -70,12 +70,12 @@ module _ (s : List ℕ) (l : length s ≡ 32776) (h : Cells 8 s) where
 
   -- u, v and x are what the three steps of the code leave, i the item as the code has it
   pub grants-delete : (on i : ℕ) (u v x : List ℕ) → on < 64 → i ≡ on → u ≡ cleared s (on / 8) (on % 8)
-      → v ≡ zeroed (spaced (8 + 512 * i) 1 512) u → x ≡ zeroed (spaced (8 + i) 64 512) v → x ≡ after grantBytes s (Delete 0 on)
-  grants-delete on i u v x o e f g q = q ∙ rw (g, f, e) (deleted on o)
+      → v ≡ zeroed (spaced (8 + 512 * i) 1 512) u → x ≡ zeroed (spaced (8 + i) 64 512) v → x ≡ deleted grantBytes s on
+  grants-delete on i u v x o e f g q = q ∙ rw (g, f, e) (all-deleted on o)
 
 -- create: the item into the live set, which leaves u, then an edit grant of depth 0
-pub grants-create : (s u x : List ℕ) (p o r d : ℕ) → length s ≡ 32776 → o < 64 → r ≡ 0 → d ≡ 0 → u ≡ marked s (o / 8) (o % 8)
-    → x ≡ after grantBytes u (Allow 0 p o r d) → x ≡ after grantBytes s (Create p o)
+pub grants-create : (s u x : List ℕ) (p o r d : ℕ) → length s ≡ grantCells → o < 64 → r ≡ 0 → d ≡ 0 → u ≡ marked s (o / 8) (o % 8)
+    → x ≡ allowed grantBytes u (grant p o r d) → x ≡ created grantBytes s p o
 unfolding grantBytes
 grants-create s u x p o r d l b y z e q =
-    q ∙ rw (e, y, z) (create-is grantBytes bytes-laws s l 0 p o (o / 8) (o % 8) b (omega arith) (omega arith))
+    q ∙ rw (e, y, z) (create-is grantBytes bytes-laws s l p o (o / 8) (o % 8) b (omega arith) (omega arith))

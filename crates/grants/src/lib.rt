@@ -10,9 +10,9 @@ use model::live;
 ghost use mathlib.Core.Path.{_≡_};
 ghost use Prim.Native.Nat.{_+_, _*_, _<_};
 ghost use lib.ListN.{length, getD};
-ghost use Rattle.model.specs.declared.Command.the-variants.{Create, Delete, Allow, Withdraw};
+ghost use Rattle.model.specs.Journal.{grant};
 ghost use Rattle.model.specs.Live.{masksOf};
-ghost use Rattle.model.specs.Unit.{grantBytes, held, inOrder, after, freshImage};
+ghost use Rattle.model.specs.Unit.{grantBytes, grantCells, held, inOrder, created, deleted, allowed, withdrawn, freshImage, freshOf};
 
 mod scan;
 
@@ -33,11 +33,13 @@ impl Grants {
     }
 }
 
-// Whatever the buffer held is overwritten.
+// Whatever the buffer held is overwritten. One of another length stays as it is.
 pub fn fresh(image: &mut [u8])
-    requires { ⌜ length (now image) ≡ 32776 ⌝ }
-    ensures { λ _. ⌜ now (image .exit) ≡ freshImage grantBytes ⌝ }
+    ensures { λ _. ⌜ now (image .exit) ≡ freshOf grantBytes (now (image .entry)) ⌝ }
 {
+    if image.len() != Grants::BYTES {
+        return;
+    }
     let start = Grants::fresh();
     bytes::clear_each(image, 0, 1, Grants::BYTES);
     image[0] = start.live;
@@ -46,7 +48,7 @@ pub fn fresh(image: &mut [u8])
 
 // Whether item 0 lives and no dead item is named. The chain unit makes the masks, since its loans are judged by them too.
 pub fn in_order(image: &[u8], masks: &[u8; 64]) -> bool
-    requires { ⌜ (length (now image) ≡ 32776) × (now masks ≡ masksOf (now image)) ⌝ }
+    requires { ⌜ (length (now image) ≡ grantCells) × (now masks ≡ masksOf (now image)) ⌝ }
     ensures { λ r. ⌜ r ≡ inOrder grantBytes (now (image .entry)) ⌝ }
 {
     if !byte::has(image[0], 0) {
@@ -58,14 +60,14 @@ pub fn in_order(image: &[u8], masks: &[u8; 64]) -> bool
 // Where the byte of a person, an item and a right stands.
 fn place(who: Item, on: Item, right: Right) -> usize
     requires { ⌜ (who .0 < 64) × (on .0 < 64) × (right .0 < 8) ⌝ }
-    ensures { λ r. ⌜ (r ≡ 8 + (512 * on .0 + 64 * right .0 + who .0)) × (r < 32776) ⌝ }
+    ensures { λ r. ⌜ (r ≡ 8 + (512 * on .0 + 64 * right .0 + who .0)) × (r < grantCells) ⌝ }
 {
     8 + (512 * on.number() + 64 * right.number() + who.number()) as usize
 }
 
 // Whether the person has a grant there, of any depth.
 pub fn holds(image: &[u8], who: Item, on: Item, right: Right) -> bool
-    requires { ⌜ (length (now image) ≡ 32776) × (who .0 < 64) × (on .0 < 64) × (right .0 < 8) ⌝ }
+    requires { ⌜ (length (now image) ≡ grantCells) × (who .0 < 64) × (on .0 < 64) × (right .0 < 8) ⌝ }
     ensures { λ r. ⌜ r ≡ held grantBytes (now (image .entry)) (who .0) (on .0) (right .0) ⌝ }
 {
     let at = place(who, on, right);
@@ -73,8 +75,8 @@ pub fn holds(image: &[u8], who: Item, on: Item, right: Right) -> bool
 }
 
 pub fn put_grant(image: &mut [u8], to: Item, on: Item, right: Right, depth: Depth)
-    requires { ⌜ (length (now image) ≡ 32776) × (to .0 < 64) × (on .0 < 64) × (right .0 < 8) × (depth .0 < 8) ⌝ }
-    ensures { λ _. ⌜ now (image .exit) ≡ after grantBytes (now (image .entry)) (Allow 0 (to .0) (on .0) (right .0) (depth .0)) ⌝ }
+    requires { ⌜ (length (now image) ≡ grantCells) × (to .0 < 64) × (on .0 < 64) × (right .0 < 8) × (depth .0 < 8) ⌝ }
+    ensures { λ _. ⌜ now (image .exit) ≡ allowed grantBytes (now (image .entry)) (grant (to .0) (on .0) (right .0) (depth .0)) ⌝ }
 {
     let at = place(to, on, right);
     image[at] = byte::with(image[at], depth.number());
@@ -82,8 +84,8 @@ pub fn put_grant(image: &mut [u8], to: Item, on: Item, right: Right, depth: Dept
 
 // Every depth ends.
 pub fn drop_grants(image: &mut [u8], to: Item, on: Item, right: Right)
-    requires { ⌜ (length (now image) ≡ 32776) × (to .0 < 64) × (on .0 < 64) × (right .0 < 8) ⌝ }
-    ensures { λ _. ⌜ now (image .exit) ≡ after grantBytes (now (image .entry)) (Withdraw 0 (to .0) (on .0) (right .0)) ⌝ }
+    requires { ⌜ (length (now image) ≡ grantCells) × (to .0 < 64) × (on .0 < 64) × (right .0 < 8) ⌝ }
+    ensures { λ _. ⌜ now (image .exit) ≡ withdrawn grantBytes (now (image .entry)) (to .0) (on .0) (right .0) ⌝ }
 {
     let at = place(to, on, right);
     image[at] = 0;
@@ -91,8 +93,8 @@ pub fn drop_grants(image: &mut [u8], to: Item, on: Item, right: Right)
 
 // The item into the live set, with an edit grant of depth 0 to its maker.
 pub fn put_item(image: &mut [u8], by: Item, on: Item)
-    requires { ⌜ (length (now image) ≡ 32776) × (by .0 < 64) × (on .0 < 64) ⌝ }
-    ensures { λ _. ⌜ now (image .exit) ≡ after grantBytes (now (image .entry)) (Create (by .0) (on .0)) ⌝ }
+    requires { ⌜ (length (now image) ≡ grantCells) × (by .0 < 64) × (on .0 < 64) ⌝ }
+    ensures { λ _. ⌜ now (image .exit) ≡ created grantBytes (now (image .entry)) (by .0) (on .0) ⌝ }
 {
     live::insert(image, on);
     put_grant(image, by, on, Right::edit(), Depth::zero());
@@ -100,8 +102,8 @@ pub fn put_item(image: &mut [u8], by: Item, on: Item)
 
 // The item out of the live set, its own block of bytes, then its byte as a person in each row of 64.
 pub fn drop_item(image: &mut [u8], on: Item)
-    requires { ⌜ (length (now image) ≡ 32776) × (on .0 < 64) ⌝ }
-    ensures { λ _. ⌜ now (image .exit) ≡ after grantBytes (now (image .entry)) (Delete 0 (on .0)) ⌝ }
+    requires { ⌜ (length (now image) ≡ grantCells) × (on .0 < 64) ⌝ }
+    ensures { λ _. ⌜ now (image .exit) ≡ deleted grantBytes (now (image .entry)) (on .0) ⌝ }
 {
     live::remove(image, on);
     let k = on.number() as usize;

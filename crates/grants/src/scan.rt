@@ -5,12 +5,12 @@ ghost use Prim.Native.Nat.{_<_};
 ghost use lib.ListN.{length};
 ghost use Rattle.model.specs.Sets.{allBelow};
 ghost use Rattle.model.specs.Live.{masksOf};
-ghost use Rattle.model.specs.Unit.{grantBytes};
+ghost use Rattle.model.specs.Unit.{grantBytes, grantCells};
 ghost use Rattle.model.proofs.Order.{blockOk};
 
 // Whether the block of an item names living items only. Each grant of a dead item's block is shown.
 fn item_ok(image: &[u8], on: usize, masks: &[u8; 64]) -> bool
-    requires { ⌜ (length (now image) ≡ 32776) × (on < 64) × (now masks ≡ masksOf (now image)) ⌝ }
+    requires { ⌜ (length (now image) ≡ grantCells) × (on < 64) × (now masks ≡ masksOf (now image)) ⌝ }
     ensures { λ r. ⌜ r ≡ blockOk grantBytes (now (image .entry)) 4096 on ⌝ }
 {
     let at = 8 + 512 * on;
@@ -19,7 +19,7 @@ fn item_ok(image: &[u8], on: usize, masks: &[u8; 64]) -> bool
 }
 
 pub fn items_ok(image: &[u8], masks: &[u8; 64]) -> bool
-    requires { ⌜ (length (now image) ≡ 32776) × (now masks ≡ masksOf (now image)) ⌝ }
+    requires { ⌜ (length (now image) ≡ grantCells) × (now masks ≡ masksOf (now image)) ⌝ }
     ensures { λ r. ⌜ r ≡ allBelow 64 (blockOk grantBytes (now (image .entry)) 4096) ⌝ }
 {
     let mut on: usize = 0;

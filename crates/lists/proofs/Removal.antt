@@ -8,8 +8,7 @@ use borrow.Author.Tests.{eqb-true, eqb-false, ltb-true, ltb-false}
 use lib.ListN.{length, getD}
 use lib.Dec.{eqb, ltb}
 use Rattle.model.specs.Bits.{bit, withoutBit}
-use Rattle.model.specs.Unit.{lists, after}
-use Rattle.model.specs.declared.Command.the-variants.{Delete}
+use Rattle.model.specs.Unit.{lists, deleted}
 use Rattle.model.proofs.Sets.{by-cases}
 use Rattle.model.proofs.Bits.{bit-of-zero, bit-without, without-le}
 use Rattle.model.proofs.Sweep.{Swept, Wiped}
@@ -53,10 +52,10 @@ module _ (s m t : List ℕ) (on a : ℕ) (l : length s ≡ 513) (o : on < 64) (q
       (λ e. let z : i ≡ 0 = omega (arith, ltb-false 0 i e) in
       rw z (omega (arith, live-left, without-le (getD s 0 0) on, h 0 (omega arith))))
 
-  pub removed : Cells 64 s → t ≡ after lists s (Delete 0 on)
+  pub removed : Cells 64 s → t ≡ deleted lists s on
   unfolding lists
   removed h =
-      delete-is lists lists-laws s l h t 0 on (v .long ∙ u .long ∙ l) (cells-left h)
+      delete-is lists lists-laws s l h t on (v .long ∙ u .long ∙ l) (cells-left h)
       (λ i b. word-bit t i 0 i b (omega arith) ∙ ap (λ (w : ℕ). bit w i) live-left ∙ bit-without (getD s 0 0) on i
       ∙ ap (λ x. x && not (eqb i on)) (sym (word-bit s i 0 i b (omega arith))))
       (λ k b. word-bit t (64 + k) (1 + k / 64) (k % 64) (omega arith) (omega arith) ∙ ap (λ (w : ℕ). bit w (k % 64)) (list-left (k / 64) (omega arith))

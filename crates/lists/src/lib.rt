@@ -3,6 +3,7 @@
 use model::Answer;
 use model::Checked;
 use model::Command;
+use model::Edit;
 use model::Facts;
 use model::Item;
 use model::Offered;
@@ -14,16 +15,18 @@ use model::Within;
 use model::judge;
 use model::word;
 ghost use mathlib.Core.Path.{_≡_};
-ghost use Prim.Native.Nat.{ℕ, _+_, _*_, _%_, _<_, _≤_};
+ghost use Prim.Native.Nat.{_+_, _*_, _%_, _<_};
 ghost use lib.Dec.{eqb};
-ghost use lib.ListN.{length, getD};
+ghost use lib.ListN.{length, getD, replicate};
 ghost use Rattle.model.specs.declared.Command.the-variants.{Create, Delete, Allow, Withdraw};
 ghost use Rattle.model.specs.Sets.{allBelow};
 ghost use Rattle.model.specs.Bits.{withoutBit};
 ghost use Rattle.model.specs.Commands.{Ranged, rawOf};
-ghost use Rattle.model.specs.Answers.{numberOf, checkedNumber, checkedYes};
-ghost use Rattle.model.specs.Unit.{lists, liveIn, held, inOrder, guarded, factsOf, after, Judged, Ran, Checks, Offers, freshImage, freshNumber, freshOf};
-ghost use Rattle.model.specs.Subjects.{subjectsNumber, subjectsAnswer};
+ghost use Rattle.model.specs.Answers.{numberOf};
+ghost use Rattle.model.specs.Journal.{grant};
+ghost use Rattle.model.specs.Machine.{Judged, Ran, Offers};
+ghost use Rattle.model.specs.Unit.{lists, listWords, liveIn, held, inOrder, guarded, factsOf, created, deleted, allowed, withdrawn, after, flatUnit, Inspects, Checks, freshImage, Freshens};
+ghost use Rattle.model.specs.Subjects.{Tells};
 ghost use Rattle.model.proofs.Scan.{orBelow};
 ghost use Rattle.model.proofs.Order.{blockOk};
 ghost use Rattle.model.proofs.Sweep.{Swept};
@@ -46,8 +49,8 @@ impl Lists {
 }
 
 // Every word to 0.
-fn clear(words: &mut [u64])
-    ensures { λ _. ⌜ Swept (λ k w. 0) (now (words .entry)) (length (now (words .entry))) (now (words .exit)) ⌝ }
+pub fn clear(words: &mut [u64])
+    ensures { λ _. ⌜ now (words .exit) ≡ replicate (length (now (words .entry))) 0 ⌝ }
 {
     let mut k: usize = 0;
     while k < words.len() {
@@ -58,7 +61,7 @@ fn clear(words: &mut [u64])
 
 // Number 1 alone: whatever the buffer held is overwritten.
 pub fn fresh(image: &mut [u64]) -> Answer
-    ensures { λ r. ⌜ (numberOf r ≡ freshNumber lists (now (image .entry))) × (now (image .exit) ≡ freshOf lists (now (image .entry))) ⌝ }
+    ensures { λ r. ⌜ Freshens lists (now (image .entry)) r (now (image .exit)) ⌝ }
 {
     if image.len() != Lists::WORDS {
         return Answer::WrongLength;
@@ -85,7 +88,7 @@ fn union(words: &[u64]) -> u64
 
 // The persons on the lists of item on who should not be: the dead ones, and all where the item is dead.
 fn misplaced(image: &[u64], on: u32) -> u64
-    requires { ⌜ (length (now image) ≡ 513) × (on < 64) ⌝ }
+    requires { ⌜ (length (now image) ≡ listWords) × (on < 64) ⌝ }
     ensures { λ r. ⌜ eqb r 0 ≡ blockOk lists (now (image .entry)) 512 on ⌝ }
 {
     let live = image[0];
@@ -100,7 +103,7 @@ fn misplaced(image: &[u64], on: u32) -> u64
 
 // Every item, with one test at the end.
 fn items_ok(image: &[u64]) -> bool
-    requires { ⌜ length (now image) ≡ 513 ⌝ }
+    requires { ⌜ length (now image) ≡ listWords ⌝ }
     ensures { λ r. ⌜ r ≡ allBelow 64 (blockOk lists (now (image .entry)) 512) ⌝ }
 {
     let mut bad: u64 = 0;
@@ -115,7 +118,7 @@ fn items_ok(image: &[u64]) -> bool
 
 // In order: the root item lives, and no list names a dead item.
 fn in_order(image: &[u64]) -> bool
-    requires { ⌜ length (now image) ≡ 513 ⌝ }
+    requires { ⌜ length (now image) ≡ listWords ⌝ }
     ensures { λ r. ⌜ r ≡ inOrder lists (now (image .entry)) ⌝ }
 {
     if !word::has(image[0], 0) {
@@ -139,7 +142,7 @@ fn order(image: &[u64]) -> Answer
 
 // Whether the item lives.
 fn lives(image: &[u64], i: Item) -> bool
-    requires { ⌜ (length (now image) ≡ 513) × (i .0 < 64) ⌝ }
+    requires { ⌜ (length (now image) ≡ listWords) × (i .0 < 64) ⌝ }
     ensures { λ r. ⌜ r ≡ liveIn lists (now (image .entry)) (i .0) ⌝ }
 {
     word::has(image[0], i.number())
@@ -148,14 +151,14 @@ fn lives(image: &[u64], i: Item) -> bool
 // Where the list of an item and a right stands.
 fn place(on: Item, right: Right) -> usize
     requires { ⌜ (on .0 < 64) × (right .0 < 8) ⌝ }
-    ensures { λ r. ⌜ (r ≡ 1 + (8 * on .0 + right .0)) × (r < 513) ⌝ }
+    ensures { λ r. ⌜ (r ≡ 1 + (8 * on .0 + right .0)) × (r < listWords) ⌝ }
 {
     1 + (8 * on.number() + right.number()) as usize
 }
 
 // Whether the person is on the list of that item and right.
 fn holds(image: &[u64], who: Item, on: Item, right: Right) -> bool
-    requires { ⌜ (length (now image) ≡ 513) × (who .0 < 64) × (on .0 < 64) × (right .0 < 8) ⌝ }
+    requires { ⌜ (length (now image) ≡ listWords) × (who .0 < 64) × (on .0 < 64) × (right .0 < 8) ⌝ }
     ensures { λ r. ⌜ r ≡ held lists (now (image .entry)) (who .0) (on .0) (right .0) ⌝ }
 {
     let at = place(on, right);
@@ -164,12 +167,12 @@ fn holds(image: &[u64], who: Item, on: Item, right: Right) -> bool
 
 // What the table asks of this image.
 fn facts(image: &[u64], t: Typed) -> Facts
-    requires { ⌜ (length (now image) ≡ 513) × Ranged (rawOf t) ⌝ }
+    requires { ⌜ (length (now image) ≡ listWords) × Ranged (rawOf t) ⌝ }
     ensures { λ r. ⌜ r ≡ factsOf lists (now (image .entry)) (rawOf t) ⌝ }
 {
-    let by = t.by();
-    let on = t.on();
-    let to = t.to();
+    let by = t.by;
+    let on = t.on;
+    let to = t.to;
     let edit = Right::edit();
     Facts {
         by: lives(image, by),
@@ -182,8 +185,8 @@ fn facts(image: &[u64], t: Typed) -> Facts
 
 // The person onto the list. A grant has no depth here: it was checked, and is dropped.
 fn put_grant(image: &mut [u64], to: Item, on: Item, right: Right)
-    requires { ⌜ (length (now image) ≡ 513) × (to .0 < 64) × (on .0 < 64) × (right .0 < 8) ⌝ }
-    ensures { λ _. ⌜ now (image .exit) ≡ after lists (now (image .entry)) (Allow 0 (to .0) (on .0) (right .0) 0) ⌝ }
+    requires { ⌜ (length (now image) ≡ listWords) × (to .0 < 64) × (on .0 < 64) × (right .0 < 8) ⌝ }
+    ensures { λ _. ⌜ now (image .exit) ≡ allowed lists (now (image .entry)) (grant (to .0) (on .0) (right .0) 0) ⌝ }
 {
     let at = place(on, right);
     image[at] = word::with(image[at], to.number());
@@ -191,8 +194,8 @@ fn put_grant(image: &mut [u64], to: Item, on: Item, right: Right)
 
 // The person off the list.
 fn drop_grant(image: &mut [u64], to: Item, on: Item, right: Right)
-    requires { ⌜ (length (now image) ≡ 513) × (to .0 < 64) × (on .0 < 64) × (right .0 < 8) ⌝ }
-    ensures { λ _. ⌜ now (image .exit) ≡ after lists (now (image .entry)) (Withdraw 0 (to .0) (on .0) (right .0)) ⌝ }
+    requires { ⌜ (length (now image) ≡ listWords) × (to .0 < 64) × (on .0 < 64) × (right .0 < 8) ⌝ }
+    ensures { λ _. ⌜ now (image .exit) ≡ withdrawn lists (now (image .entry)) (to .0) (on .0) (right .0) ⌝ }
 {
     let at = place(on, right);
     image[at] = word::without(image[at], to.number());
@@ -200,8 +203,8 @@ fn drop_grant(image: &mut [u64], to: Item, on: Item, right: Right)
 
 // The item's bit of the live set, then an edit grant on it to its creator.
 fn put_item(image: &mut [u64], by: Item, on: Item)
-    requires { ⌜ (length (now image) ≡ 513) × (by .0 < 64) × (on .0 < 64) ⌝ }
-    ensures { λ _. ⌜ now (image .exit) ≡ after lists (now (image .entry)) (Create (by .0) (on .0)) ⌝ }
+    requires { ⌜ (length (now image) ≡ listWords) × (by .0 < 64) × (on .0 < 64) ⌝ }
+    ensures { λ _. ⌜ now (image .exit) ≡ created lists (now (image .entry)) (by .0) (on .0) ⌝ }
 {
     image[0] = word::with(image[0], on.number());
     put_grant(image, by, on, Right::edit());
@@ -220,8 +223,8 @@ fn drop_name(image: &mut [u64], i: Item)
 
 // The item's bit everywhere, so that a later item of this number inherits nothing, then its own lists.
 fn drop_item(image: &mut [u64], on: Item)
-    requires { ⌜ (length (now image) ≡ 513) × (on .0 < 64) ⌝ }
-    ensures { λ _. ⌜ now (image .exit) ≡ after lists (now (image .entry)) (Delete 0 (on .0)) ⌝ }
+    requires { ⌜ (length (now image) ≡ listWords) × (on .0 < 64) ⌝ }
+    ensures { λ _. ⌜ now (image .exit) ≡ deleted lists (now (image .entry)) (on .0) ⌝ }
 {
     drop_name(image, on);
     let at = place(on, Right::edit());
@@ -229,25 +232,25 @@ fn drop_item(image: &mut [u64], on: Item)
     clear(&mut image[at..end]);
 }
 
-// What an accepted command does. Lists have no loans.
+// What an accepted command does to lists: its edit alone.
 fn apply(image: &mut [u64], t: Typed)
-    requires { ⌜ (length (now image) ≡ 513) × Ranged (rawOf t) ⌝ }
+    requires { ⌜ (length (now image) ≡ listWords) × Ranged (rawOf t) ⌝ }
     ensures { λ _. ⌜ now (image .exit) ≡ after lists (now (image .entry)) (rawOf t) ⌝ }
 {
-    match t {
-        Typed::Create { by, on } => put_item(image, by, on),
-        Typed::Delete { on, .. } => drop_item(image, on),
-        Typed::Allow { to, on, right, .. } => put_grant(image, to, on, right),
-        Typed::Withdraw { to, on, right, .. } => drop_grant(image, to, on, right),
-        Typed::Lend { .. } => {}
-        Typed::Recall { .. } => {}
+    let edit = t.edit;
+    match edit {
+        Edit::Create => put_item(image, t.by, t.on),
+        Edit::Delete => drop_item(image, t.on),
+        Edit::Allow => put_grant(image, t.to, t.on, t.right),
+        Edit::Withdraw => drop_grant(image, t.to, t.on, t.right),
+        Edit::Nothing => {}
     }
 }
 
 // Numbers 4 to 10, and what follows.
 fn settle(image: &mut [u64], t: Typed) -> Answer
-    requires { ⌜ (length (now image) ≡ 513) × Ranged (rawOf t) ⌝ }
-    ensures { λ r. ⌜ Judged lists (now (image .entry)) (rawOf t) (numberOf r) (now (image .exit)) ⌝ }
+    requires { ⌜ (length (now image) ≡ listWords) × Ranged (rawOf t) ⌝ }
+    ensures { λ r. ⌜ Judged (flatUnit lists) (now (image .entry)) (rawOf t) (numberOf r) (now (image .exit)) ⌝ }
 {
     let f = facts(image, t);
     let a = judge(t, f);
@@ -260,7 +263,7 @@ fn settle(image: &mut [u64], t: Typed) -> Answer
 
 // Any command, from the numbers that arrived. Private: a unit that lacks a command must not answer it.
 fn run(image: &mut [u64], c: Command) -> Answer
-    ensures { λ r. ⌜ Ran lists (now (image .entry)) c (numberOf r) (now (image .exit)) ⌝ }
+    ensures { λ r. ⌜ Ran (flatUnit lists) (now (image .entry)) c r (now (image .exit)) ⌝ }
 {
     let a = order(image);
     if a.number() != 0 {
@@ -274,19 +277,19 @@ fn run(image: &mut [u64], c: Command) -> Answer
 }
 
 pub fn create(image: &mut [u64], by: u32, on: u32) -> Answer
-    ensures { λ r. ⌜ Ran lists (now (image .entry)) (Create by on) (numberOf r) (now (image .exit)) ⌝ }
+    ensures { λ r. ⌜ Ran (flatUnit lists) (now (image .entry)) (Create by on) r (now (image .exit)) ⌝ }
 {
     run(image, Command::Create { by, on })
 }
 
 pub fn delete(image: &mut [u64], by: u32, on: u32) -> Answer
-    ensures { λ r. ⌜ Ran lists (now (image .entry)) (Delete by on) (numberOf r) (now (image .exit)) ⌝ }
+    ensures { λ r. ⌜ Ran (flatUnit lists) (now (image .entry)) (Delete by on) r (now (image .exit)) ⌝ }
 {
     run(image, Command::Delete { by, on })
 }
 
 pub fn allow(image: &mut [u64], by: u32, to: u32, on: u32, right: u32, depth: u32) -> Answer
-    ensures { λ r. ⌜ Ran lists (now (image .entry)) (Allow by to on right depth) (numberOf r) (now (image .exit)) ⌝ }
+    ensures { λ r. ⌜ Ran (flatUnit lists) (now (image .entry)) (Allow by to on right depth) r (now (image .exit)) ⌝ }
 {
     run(
         image,
@@ -301,14 +304,14 @@ pub fn allow(image: &mut [u64], by: u32, to: u32, on: u32, right: u32, depth: u3
 }
 
 pub fn withdraw(image: &mut [u64], by: u32, to: u32, on: u32, right: u32) -> Answer
-    ensures { λ r. ⌜ Ran lists (now (image .entry)) (Withdraw by to on right) (numberOf r) (now (image .exit)) ⌝ }
+    ensures { λ r. ⌜ Ran (flatUnit lists) (now (image .entry)) (Withdraw by to on right) r (now (image .exit)) ⌝ }
 {
     run(image, Command::Withdraw { by, to, on, right })
 }
 
 // For a caller that reads commands: any of them, passed over where lists lack it.
 pub fn offer(image: &mut [u64], c: Command) -> Offered
-    ensures { λ r. ⌜ Offers lists (now (image .entry)) c r (now (image .exit)) ⌝ }
+    ensures { λ r. ⌜ Offers (flatUnit lists) (now (image .entry)) c r (now (image .exit)) ⌝ }
 {
     if !c.is_flat() {
         return Offered::Passed;
@@ -318,7 +321,7 @@ pub fn offer(image: &mut [u64], c: Command) -> Offered
 
 // Whether the person has that right on the item.
 pub fn check(image: &[u64], who: u32, on: u32, right: u32) -> Checked
-    ensures { λ r. ⌜ Checks lists (now (image .entry)) who on right (checkedNumber r) (checkedYes r) (now (image .exit)) ⌝ }
+    ensures { λ r. ⌜ Checks lists (now (image .entry)) who on right r (now (image .exit)) ⌝ }
 {
     let a = order(image);
     if a.number() != 0 {
@@ -337,7 +340,7 @@ pub fn check(image: &[u64], who: u32, on: u32, right: u32) -> Checked
 
 // Every person with at least one grant (document 01's 'holder roll').
 pub fn subjects(image: &[u64]) -> SubjectSet
-    ensures { λ r. ⌜ (numberOf (r .answer) ≡ subjectsNumber lists (now (image .entry))) × (r .persons ≡ subjectsAnswer lists (now (image .entry))) × (now (image .exit) ≡ now (image .entry)) ⌝ }
+    ensures { λ r. ⌜ Tells lists (now (image .entry)) r (now (image .exit)) ⌝ }
 {
     let a = order(image);
     if a.number() != 0 {
@@ -352,7 +355,7 @@ pub fn subjects(image: &[u64]) -> SubjectSet
 
 // Numbers 1 and 2 alone, for a caller that reads the lists itself.
 pub fn inspect(image: &[u64]) -> Answer
-    ensures { λ r. ⌜ (numberOf r ≡ guarded lists (now (image .entry)) 0) × (now (image .exit) ≡ now (image .entry)) ⌝ }
+    ensures { λ r. ⌜ Inspects lists (now (image .entry)) r (now (image .exit)) ⌝ }
 {
     order(image)
 }

@@ -11,7 +11,9 @@ use borrow.Rule.Slice.PartMut.{putMid}
 use lib.Dec.{eqb, leb}
 use borrow.Author.Tests.{le-leb, leb-true, leb-false, eq-eqb}
 use Rattle.model.specs.Sets.{any, all}
-use Rattle.model.specs.Loans.{lender, loanItem, borrower, rising, insert, countOf, used, loansImage, wordGood, loansInOrder}
+use Rattle.model.specs.Commands.{mostLoans}
+use Rattle.model.specs.Loans.{lender, loanItem, borrower, rising, insert, tableWords, headerWord, recounted, headerIn, countOf, used, loansImage, loansWith, wordGood, loansInOrder}
+use Rattle.model.specs.declared.loan.Header.{Header}
 use Rattle.model.proofs.Sets.{by-cases, all-and}
 use Rattle.model.proofs.Rising.{insert-present}
 use Rattle.loans.specs.Table.{shaped, namesLive, Ordered}
@@ -32,59 +34,63 @@ module _ (t : List ℕ) (n : ℕ) (e : n ≡ min (countOf t) (length t - 1)) whe
   pub used-none : n ≡ 0 → used t ≡ []
   used-none z = sym part-used ∙ rw z
 
--- the words after the first m zeroed, and the count put
-pub cut-off : (t last : List ℕ) (m v : ℕ) → length t ≡ 1025 → m ≤ 1024
-    → last ≡ replicate (length (take (length t - (m + 1)) (drop (m + 1) t))) 0 → v ≡ m
-    → set (putMid (m + 1) (length t - (m + 1)) t last) 0 v ≡ loansImage (take m (drop 1 t))
+-- the words after the first m zeroed, and the header put
+pub cut-off : (h : Header) (t last : List ℕ) (m v : ℕ) → length t ≡ tableWords → m ≤ mostLoans
+    → last ≡ replicate (length (take (length t - (m + 1)) (drop (m + 1) t))) 0 → v ≡ headerWord (recounted h m)
+    → set (putMid (m + 1) (length t - (m + 1)) t last) 0 v ≡ loansImage h (take m (drop 1 t))
 unfolding loansImage
-cut-off [] last m v h l e q = absurd (omega arith)
-cut-off (n ∷ s) last m v h l e q =
-    let d : length (drop m s) ≡ 1024 - m = simp length-drop (omega arith) in
+cut-off h [] last m v n l e q = absurd (omega arith)
+cut-off h (x ∷ s) last m v n l e q =
+    let d : length (drop m s) ≡ mostLoans - m = simp length-drop (omega arith) in
     let k : suc (length s) - suc m ≡ length (drop m s) = omega arith in
-    let z : last ≡ replicate (1024 - m) 0 = (rw (add-one m) at e) ∙ rw (k, take-length (drop m s), d) in
+    let z : last ≡ replicate (mostLoans - m) 0 = (rw (add-one m) at e) ∙ rw (k, take-length (drop m s), d) in
     let a : length (take m s) ≡ m = length-take-le m s (omega arith) in
-    rw (q, a, add-one m, k, drop-length (drop m s), z) (ap (λ (r : List ℕ). m ∷ (take m s ++ r)) (append-nil (replicate (1024 - m) 0)))
+    rw (q, a, add-one m, k, drop-length (drop m s), z)
+    (ap (λ (r : List ℕ). headerWord (recounted h m) ∷ (take m s ++ r)) (append-nil (replicate (mostLoans - m) 0)))
 
 -- the words that stay, in the table from whose part they were taken
 pub packed-part : (t part : List ℕ) (k m : ℕ) → 0 < length t → m ≤ length part → take m (drop 1 (putMid 1 k t part)) ≡ take m part
 packed-part [] part k m h l = absurd (omega arith)
 packed-part (n ∷ s) part k m h l = take-append-le m part (drop k s) l
 
--- a word put behind the part that holds the loans in use, and the count put
-put-word : (t part ls z : List ℕ) (n k last v : ℕ) → t ≡ n ∷ (ls ++ (0 ∷ z)) → k ≡ length ls → length part ≡ n
+-- a word put behind the part that holds the loans in use, and the header put
+put-word : (t part ls z : List ℕ) (h n k last v : ℕ) → t ≡ h ∷ (ls ++ (0 ∷ z)) → k ≡ length ls → length part ≡ n
     → set (set (putMid 1 k t part) (n + 1) last) 0 v ≡ v ∷ (part ++ (last ∷ z))
-put-word t part ls z n k last v e q h = rw (e, q, drop-at ls (0 ∷ z) (length ls) refl, add-one n, set-at part 0 z last n h)
+put-word t part ls z h n k last v e q p = rw (e, q, drop-at ls (0 ∷ z) (length ls) refl, add-one n, set-at part 0 z last n p)
 
-image-room : (ws : List ℕ) (n : ℕ) → length ws ≡ n → n < 1024 → loansImage ws ≡ n ∷ (ws ++ (0 ∷ replicate (1023 - n) 0))
+image-room : (h : Header) (ws : List ℕ) (n : ℕ) → length ws ≡ n → n < mostLoans
+    → loansImage h ws ≡ headerWord (recounted h n) ∷ (ws ++ (0 ∷ replicate (mostLoans - suc n) 0))
 unfolding loansImage
-image-room ws n h l = let q : 1024 - n ≡ suc (1023 - n) = omega arith in rw (h, q)
+image-room h ws n l few = let q : mostLoans - n ≡ suc (mostLoans - suc n) = omega arith in rw (l, q)
 
-image-snoc : (ws : List ℕ) (x n : ℕ) → length ws ≡ n → loansImage (ws ++ (x ∷ [])) ≡ (n + 1) ∷ (ws ++ (x ∷ replicate (1023 - n) 0))
+image-snoc : (h : Header) (ws : List ℕ) (x n : ℕ) → length ws ≡ n
+    → loansImage h (ws ++ (x ∷ [])) ≡ headerWord (recounted h (n + 1)) ∷ (ws ++ (x ∷ replicate (mostLoans - suc n) 0))
 unfolding loansImage
-image-snoc ws x n h =
+image-snoc h ws x n l =
     let k : length (ws ++ (x ∷ [])) ≡ n + 1 = simp length-append (omega arith) in
-    let q : 1024 - (n + 1) ≡ 1023 - n = omega arith in
-    rw (k, q) (ap (λ (r : List ℕ). (n + 1) ∷ r) (append-snoc ws x (replicate (1023 - n) 0)))
+    let q : mostLoans - (n + 1) ≡ mostLoans - suc n = omega arith in
+    rw (k, q) (ap (λ (r : List ℕ). headerWord (recounted h (n + 1)) ∷ r) (append-snoc ws x (replicate (mostLoans - suc n) 0)))
 
-pub room : (n : ℕ) (b : Bool) → leb 1024 n && not b ≡ false → b ≡ false → n < 1024
-room n b e f = leb-false 1024 n (sym (and-true (leb 1024 n)) ∙ ap (λ x. leb 1024 n && not x) (sym f) ∙ e)
+pub room : (n : ℕ) (b : Bool) → leb mostLoans n && not b ≡ false → b ≡ false → n < mostLoans
+room n b e f = leb-false mostLoans n (sym (and-true (leb mostLoans n)) ∙ ap (λ x. leb mostLoans n && not x) (sym f) ∙ e)
 
 module _ (t : List ℕ) (o : Ordered t) where
-  pub standing : (code : ℕ) → any (eqb code) (used t) ≡ true → t ≡ loansImage (insert code (used t))
-  standing code h = o .whole ∙ ap loansImage (sym (insert-present code (used t) (o .rises) h))
+  pub standing : (code : ℕ) → any (eqb code) (used t) ≡ true → t ≡ loansWith code t
+  standing code h = o .whole ∙ ap (loansImage (headerIn t)) (sym (insert-present code (used t) (o .rises) h))
 
-  pub added : (part : List ℕ) (code n last v : ℕ) → n ≡ min (countOf t) (length t - 1) → countOf t < 1024
-      → length part ≡ length (take (n + 1 - 1) (drop 1 t)) → part ++ (last ∷ []) ≡ insert code (take (n + 1 - 1) (drop 1 t)) → v ≡ n + 1
-      → set (set (putMid 1 (n + 1 - 1) t part) (n + 1) last) 0 v ≡ loansImage (insert code (used t))
+  pub added : (part : List ℕ) (code n last v : ℕ) → n ≡ min (countOf t) (length t - 1) → countOf t < mostLoans
+      → length part ≡ length (take (n + 1 - 1) (drop 1 t)) → part ++ (last ∷ []) ≡ insert code (take (n + 1 - 1) (drop 1 t))
+      → v ≡ headerWord (recounted (headerIn t) (n + 1))
+      → set (set (putMid 1 (n + 1 - 1) t part) (n + 1) last) 0 v ≡ loansWith code t
   added part code n last v e room lp ep ev =
       let ls : length (used t) ≡ n = length-used t ∙ sym e in
       let u = part-used t n e in
       let k : n + 1 - 1 ≡ length (used t) = omega arith in
-      let h : length part ≡ n = lp ∙ rw u ls in
-      let w : t ≡ n ∷ (used t ++ (0 ∷ replicate (1023 - n) 0)) = o .whole ∙ image-room (used t) n ls (omega (arith, o .long)) in
+      let l : length part ≡ n = lp ∙ rw u ls in
+      let w = o .whole ∙ image-room (headerIn t) (used t) n ls (omega (arith, o .long)) in
       let q : part ++ (last ∷ []) ≡ insert code (used t) = ep ∙ rw u in
-      put-word t part (used t) (replicate (1023 - n) 0) n (n + 1 - 1) last v w k h
-      ∙ sym (ap loansImage (sym q) ∙ image-snoc part last n h ∙ rw ev)
+      put-word t part (used t) (replicate (mostLoans - suc n) 0) _ n (n + 1 - 1) last v w k l
+      ∙ sym (ap (loansImage (headerIn t)) (sym q) ∙ image-snoc (headerIn t) part last n l ∙ rw ev)
 
 -- ---- the parts that the test of order looks at
 good-split : (live : ℕ → Bool) (w : ℕ) → wordGood live w ≡ shaped w && namesLive live w
@@ -92,8 +98,8 @@ good-split live w =
     ap (λ b. b && live (borrower w)) (and-assoc (shaped w) (live (lender w)) (live (loanItem w)))
     ∙ and-assoc (shaped w) (live (lender w) && live (loanItem w)) (live (borrower w))
 
-pub order-parts : (live : ℕ → Bool) (t : List ℕ) (n : ℕ) → length t ≡ 1025 → countOf t ≤ 1024 → n ≡ min (countOf t) (length t - 1)
-    → eqb (length t) 1025 && loansInOrder live t
+pub order-parts : (live : ℕ → Bool) (t : List ℕ) (n : ℕ) → length t ≡ tableWords → countOf t ≤ mostLoans → n ≡ min (countOf t) (length t - 1)
+    → eqb (length t) tableWords && loansInOrder live t
     ≡ rising (take (n + 1 - 1) (drop 1 t)) && all shaped (take (n + 1 - 1) (drop 1 t)) && all (namesLive live) (take (n + 1 - 1) (drop 1 t))
     && all (eqb 0) (take (length t - (n + 1)) (drop (n + 1) t))
 unfolding loansInOrder
@@ -102,5 +108,5 @@ order-parts live t n l few e =
     let q : n + 1 ≡ suc (countOf t) = omega arith in
     let g : all (wordGood live) (used t) ≡ all shaped (used t) && all (namesLive live) (used t)
     = (λ j. all (λ w. good-split live w j) (used t)) ∙ all-and shaped (namesLive live) (used t) in
-    rw (eq-eqb (length t) 1025 l, le-leb (countOf t) 1024 few, part-used t n e, z, q, g)
+    rw (eq-eqb (length t) tableWords l, le-leb (countOf t) mostLoans few, part-used t n e, z, q, g)
     (ap (λ b. b && all (eqb 0) (drop (suc (countOf t)) t)) (sym (and-assoc (rising (used t)) (all shaped (used t)) (all (namesLive live) (used t)))))

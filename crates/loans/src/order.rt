@@ -1,12 +1,12 @@
 // Whether a loan table is in order. Each loop ORs flags that are 0 where a word passes, and the sum is tested once.
 use crate::Loans;
-use crate::field;
+use model::loan;
 ghost use mathlib.Core.Path.{_≡_};
 ghost use mathlib.Core.Bool.{_&&_};
 ghost use lib.ListN.{length};
 ghost use lib.Dec.{eqb, ltb};
 ghost use Rattle.model.specs.Sets.{all};
-ghost use Rattle.model.specs.Loans.{rising, loansInOrder};
+ghost use Rattle.model.specs.Loans.{rising, tableWords, loansInOrder};
 ghost use Rattle.loans.specs.Table.{unmasked, shaped, namesLive};
 
 fn rise_flag(a: u32, b: u32) -> u32
@@ -35,7 +35,7 @@ fn rises(s: &[u32]) -> bool
 fn shape_flag(w: u32) -> u32
     ensures { λ r. ⌜ eqb r 0 ≡ shaped w ⌝ }
 {
-    if field::right(w) == 0 {
+    if loan::right(w).number() == 0 {
         return 1;
     }
     w / 16777216
@@ -58,9 +58,9 @@ fn are_shaped(s: &[u32]) -> bool
 fn names_flag(w: u32, masks: &[u8; 64]) -> u8
     ensures { λ r. ⌜ eqb r 0 ≡ namesLive (unmasked (now (masks .entry))) w ⌝ }
 {
-    let p = field::lender(w) as usize;
-    let i = field::item(w) as usize;
-    let q = field::borrower(w) as usize;
+    let p = loan::lender(w).number() as usize;
+    let i = loan::item(w).number() as usize;
+    let q = loan::borrower(w).number() as usize;
     masks[p] | masks[i] | masks[q]
 }
 
@@ -91,12 +91,14 @@ fn are_zero(s: &[u32]) -> bool
 
 // Whether the slice is a table in order, by a mask of the living items: 0 where one lives, 255 where not.
 pub fn in_order(loans: &[u32], masks: &[u8; 64]) -> bool
-    ensures { λ r. ⌜ r ≡ eqb (length (now (loans .entry))) 1025 && loansInOrder (unmasked (now (masks .entry))) (now (loans .entry)) ⌝ }
+    ensures { λ r. ⌜ r
+        ≡ eqb (length (now (loans .entry))) tableWords && loansInOrder (unmasked (now (masks .entry))) (now (loans .entry)) ⌝ }
 {
     if loans.len() != Loans::WORDS {
         return false;
     }
-    if crate::count_of(loans) > Loans::MAX {
+    let header = crate::header_of(loans);
+    if header.count > Loans::MAX {
         return false;
     }
     let n = crate::in_use(loans);

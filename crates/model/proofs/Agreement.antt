@@ -1,6 +1,10 @@
--- Demand 3: fed any list of commands from the start, the three units agree with the journal.
+-- Demand 3: fed any list of commands from the start, the three units agree with the journal. Each unit's image is a function of the
+-- journal that it is held to, and each command keeps it so; lists and rows are held to a journal of their own commands first, and that
+-- one is alike to the whole journal in live items and grants.
 use mathlib.Core.Path.{_≡_, refl, sym, ap, _∙_, subst}
-use mathlib.Core.Bool.{Bool, true, false, _&&_, cond}
+use mathlib.Core.Bool.{Bool, true, false, not, _&&_, cond, false≢true}
+use mathlib.Core.Logic.{_↔_, by-cases}
+use native.Mathlib.Decide.{ℕ-discrete}
 use mathlib.Core.List.{List, [], _∷_}
 use Prim.Native.Nat.{ℕ, _+_, _≤_, _<_}
 use native.Mathlib.Omega.{arith}
@@ -9,42 +13,43 @@ use lib.ListN.{length, getD}
 use lib.Dec.{eqb, leb}
 use Rattle.model.specs.declared.Command.{Command}
 use Rattle.model.specs.Sets.{any}
-use Rattle.model.specs.Commands.{items, rightDepth}
-use Rattle.model.specs.Answers.{answer, asked}
-use Rattle.model.specs.Journal.{Loan, Journal, grant, sameLoan, apply, LoanStands, facts, fresh, step}
-use Rattle.model.specs.Unit.{Layout, lists, rows, grantBytes, flat, stepOf}
-use Rattle.model.specs.Chain.{granted, lent}
+use Rattle.model.specs.Commands.{items, rightDepth, argumentsOf, fits}
+use Rattle.model.specs.Answers.{flat, asked, Found, nothing}
+use Rattle.model.specs.Journal.{Loan, Journal, grant, sameLoan, isTo, apply, LoanStands, facts, answered, fresh, step}
+use Rattle.model.specs.Unit.{Layout, lists, rows, grantBytes, flatUnit}
+use Rattle.model.specs.Machine.{stepOf}
+use Rattle.model.specs.Chain.{granted, lent, Meets}
 use Rattle.model.specs.Loans.{lender, borrower, loanDepth, loanItem, loanRight, wordOf}
 use Rattle.model.specs.Images.{Images, LentIn, ImageChain}
-use Rattle.model.specs.ChainUnit.{chainCheckNumber}
-use Rattle.model.specs.Agreement.{JournalChain, Units, freshUnits, FlatAgrees, ChainAgrees, Agrees, Answers, called, Follows, Agreement}
-use Rattle.model.proofs.Sets.{fst, snd, both, by-cases, find, found}
-use Rattle.model.proofs.Chain.{chain-length, chain-map, meets-map}
-use Rattle.model.proofs.Invariant.{ranged, same-loan, loan-self, Inv}
-use Rattle.model.proofs.Unit.{Laws, imageOf, lists-laws, rows-laws, bytes-laws, rangedLoan, guard-of, held-of, answer-of, step-of, idle, fresh-of, beyond-none, cells-of}
-use Rattle.model.proofs.Search.{meets}
+use Rattle.model.specs.ChainUnit.{chainCheckNumber, chainFound, chainBuffer}
+use Rattle.model.specs.Agreement.{JournalChain, JournalAccess, Units, freshUnits, FlatAgrees, ChainAgrees, Agrees, Answers, called, Follows, Agreement, flatStep, OwnAgreement, fed}
+use Rattle.model.proofs.Sets.{fst, snd, both, find, found}
+use Rattle.model.proofs.Sets as sets
+use Rattle.model.proofs.Chain.{chain-length, chain-map, meets-map, meets-access, access-iff}
+use Rattle.model.proofs.Invariant.{ranged, same-loan, loan-self, Inv, inv-fresh}
+use Rattle.model.proofs.Unit.{Laws, imageOf, lists-laws, rows-laws, bytes-laws, rangedLoan, table-same, guard-of, held-of, answer-of, fresh-of, beyond-none, cells-of}
+use Rattle.model.proofs.Rules.{check-meets}
 use Rattle.model.proofs.Loans.{word-fields, word-in, sorted, any-sorted, used-of, loans-ranged}
-use Rattle.model.proofs.ChainUnit.{grantsOf, imagesOf, Kept, kept-fresh, kept-step, guard-chain, answer-chain, step-chain, fresh-chain, stands-ranged, standing-of}
+use Rattle.model.proofs.Steps.{inv-step, Kept, kept-fresh, kept-step, flat-lends, step-of, grantsOf, headerFor, imagesOf, few-sorted, Alike, alike-apply}
+use Rattle.model.proofs.ChainUnit.{guard-chain, answer-chain, step-chain, fresh-chain, stands-ranged, standing-of}
 
 -- ---- lists and rows
 flat-agrees : (L : Layout) (W : Laws L) (j : Journal) → Inv j → FlatAgrees L j (imageOf L W j)
 flat-agrees L W j v = record {
   number = λ p o r. guard-of L W j v (asked p o r);
   yes = λ p o r.
-      by-cases (items p o && rightDepth r 0) (λ h. rw (guard-of L W j v _, h) (held-of L W j v p o r h))
+      sets.by-cases (items p o && rightDepth r 0) (λ h. rw (guard-of L W j v _, h) (held-of L W j v p o r h))
       (λ h. rw (guard-of L W j v _, h) (sym (beyond-none j v p o r h)));
   unchanged = λ p o r. refl;
 }
 
 -- a unit that lacks the command is not called
-flat-called : (L : Layout) (W : Laws L) (j : Journal) (c : Command) → Inv j
-    → cond (flat c) (stepOf L (imageOf L W j) c) (imageOf L W j) ≡ imageOf L W (step j c)
-flat-called L W j c v =
-    by-cases (flat c) (λ t. rw t (step-of L W j v c)) (λ t. rw t (still (eqb (answer (facts j c) c) 0) t))
-  where
-    still : (b : Bool) → flat c ≡ false → imageOf L W j ≡ imageOf L W (cond b (apply j c) j)
-    still true h = idle L W j c h
-    still false h = refl
+flat-called : (L : Layout) (W : Laws L) (k : Journal) (c : Command) → Inv k
+    → cond (flat c) (stepOf (flatUnit L) (imageOf L W k) c) (imageOf L W k) ≡ imageOf L W (flatStep k c)
+flat-called L W k c v = sets.by-cases (flat c) (λ t. rw t (step-of L W k v c t)) (λ t. rw t)
+
+inv-flat : (k : Journal) (c : Command) → Inv k → Inv (flatStep k c)
+inv-flat k c v = sets.by-cases (flat c) (λ t. rw t (inv-step k c v)) (λ t. rw t v)
 
 -- ---- the chains of a journal's images are the journal's
 module _ (j : Journal) (v : Kept j) (o r : ℕ) where
@@ -58,7 +63,7 @@ module _ (j : Journal) (v : Kept j) (o r : ℕ) where
       → (l : Loan) × LoanStands j o r l × (l .lender ≡ lender w) × (l .borrower ≡ borrower w) × (l .depth ≡ loanDepth w)
   word-loan w s =
       let m : any (λ l. eqb w (wordOf l)) (j .loans) ≡ true
-      = sym (any-sorted (eqb w) (j .loans)) ∙ ap (any (eqb w)) (sym (used-of (sorted (j .loans)))) ∙ s .0 in
+      = sym (any-sorted (eqb w) (j .loans)) ∙ ap (any (eqb w)) (sym (used-of (headerFor j) (sorted (j .loans)) (few-sorted j (v .loan-inv)))) ∙ s .0 in
       let f = found (λ l. eqb w (wordOf l)) sameLoan loan-self (j .loans) m in
       let e : w ≡ wordOf (f .0) = eqb-true w (wordOf (f .0)) (f .1) in
       let k = word-fields (f .0) (loan-ranged (f .0) (f .2)) in (
@@ -77,7 +82,7 @@ module _ (j : Journal) (v : Kept j) (o r : ℕ) where
       let k = word-fields l g in (
         wordOf l,
         (
-          ap (any (eqb (wordOf l))) (used-of (sorted (j .loans))) ∙ word-in l (j .loans) g (loans-ranged j (v .loan-inv)) ∙ s .0,
+          ap (any (eqb (wordOf l))) (used-of (headerFor j) (sorted (j .loans)) (few-sorted j (v .loan-inv))) ∙ word-in l (j .loans) g (loans-ranged j (v .loan-inv)) ∙ s .0,
           k .1 ∙ s .1,
           k .2 ∙ s .2,
         ),
@@ -114,60 +119,127 @@ pub journal-short : (j : Journal) → Kept j → {o r : ℕ} {ps : List ℕ} {p 
 journal-short j v {o} {r} c =
     chain-length (λ p e h. let k : ranged (grant p o r e) ≡ true = stands-ranged j (v .inv) (grant p o r e) h in search (fst, snd, leb-true)) c
 
-asked-in : (p o r : ℕ) → asked p o r ≡ 0 → items p o && rightDepth r 0 ≡ true
-asked-in p o r e = by-cases (items p o && rightDepth r 0) (λ t. t) (λ t. absurd (let z : _≡_ {A = ℕ} 3 0 = (rw t at e) in omega arith))
+-- a check of the journal's images, beyond the limits and within them
+module _ (j : Journal) (v : Kept j) (buffer : List ℕ) (l : length buffer ≡ 8) (p o r : ℕ) where
+  number-of : chainCheckNumber (imagesOf j) buffer p o r ≡ asked p o r
+  number-of = rw (eq-eqb (length buffer) 8 l) (guard-chain j v (asked p o r))
+
+  meets-of : asked p o r ≡ 0 → Meets (λ ps a. JournalChain j o r ps p a) (chainFound (imagesOf j) buffer p o r) (chainBuffer (imagesOf j) buffer p o r)
+  meets-of e =
+      meets-map (check-meets (imagesOf j) (bytes-of j) buffer p o r (number-of ∙ e)) (λ ps a. to-journal j v o r ps p a) (λ ps a. to-images j v o r ps p a)
+
+  beyond-of : (asked p o r ≡ 0 → ⊥)
+      → (chainFound (imagesOf j) buffer p o r ≡ nothing) × (chainBuffer (imagesOf j) buffer p o r ≡ buffer)
+      × ((ps : List ℕ) (a : ℕ) → JournalChain j o r ps p a → ⊥)
+  beyond-of ne =
+      let f : eqb (chainCheckNumber (imagesOf j) buffer p o r) 0 ≡ false = ne-eqb _ 0 (λ z. ne (sym number-of ∙ z)) in
+      (rw f, rw f, λ ps a c. ne (rw (chain-asked j v o r c)))
+
+  rules-of : (d : ℕ) → JournalAccess j p o r d ↔ (chainFound (imagesOf j) buffer p o r .yes ≡ true) × (d ≤ chainFound (imagesOf j) buffer p o r .depth)
+  rules-of d =
+      by-cases (ℕ-discrete (asked p o r) 0) (λ e. meets-access _ _ _ _ _ p o r (meets-of e) d)
+      (λ ne. let b = beyond-of ne in (
+        λ t. let e = access-iff _ _ _ _ _ p o r d .0 t in absurd (b .2 (e .0) (e .1) (e .3)),
+        λ q. absurd (false≢true (ap (λ (f : Found). f .yes) (sym (b .0)) ∙ q .0)),
+      ))
 
 chain-agrees : (j : Journal) → Kept j → ChainAgrees j (imagesOf j)
 chain-agrees j v = record {
-  number = num;
-  meets = λ buffer l p o r e.
-      let n : chainCheckNumber (imagesOf j) buffer p o r ≡ 0 = num buffer l p o r ∙ e in
-      let b = limits p o r (asked-in p o r e) in
-      rw n (meets-map (meets (imagesOf j) (bytes-of j) p o r (b .0) (b .1) (b .2)) (λ ps a. to-journal j v o r ps p a)
-      (λ ps a. to-images j v o r ps p a));
-  beyond = λ buffer l p o r ne.
-      let n : chainCheckNumber (imagesOf j) buffer p o r ≡ asked p o r = num buffer l p o r in
-      let f : eqb (chainCheckNumber (imagesOf j) buffer p o r) 0 ≡ false = ne-eqb _ 0 (λ z. ne (sym n ∙ z)) in
-      (rw f, rw f, λ ps a c. ne (rw (chain-asked j v o r c)));
+  number = number-of j v;
+  meets = meets-of j v;
+  beyond = beyond-of j v;
+  rules = rules-of j v;
   unchanged = λ buffer p o r. refl;
 }
-  where
-    num : (buffer : List ℕ) → length buffer ≡ 8 → (p o r : ℕ) → chainCheckNumber (imagesOf j) buffer p o r ≡ asked p o r
-    num buffer l p o r = rw (eq-eqb (length buffer) 8 l) (guard-chain j v (asked p o r))
 
-    limits : (p o r : ℕ) → items p o && rightDepth r 0 ≡ true → (p ≤ 63) × (o ≤ 63) × (r ≤ 7)
-    limits p o r h = search (fst, snd, leb-true)
-
--- ---- the units of a journal
-abbrev pub unitsOf : Journal → Units
-unitsOf j = record { lists = imageOf lists lists-laws j; rows = imageOf rows rows-laws j; chains = imagesOf j }
+-- ---- the units of two journals
+abbrev pub unitsOf : Journal → Journal → Units
+unitsOf j k = record { lists = imageOf lists lists-laws k; rows = imageOf rows rows-laws k; chains = imagesOf j }
 
 abbrev units : List ℕ → List ℕ → Images → Units
 units a b c = record { lists = a; rows = b; chains = c }
 
-agrees-of : (j : Journal) → Kept j → Agrees j (unitsOf j)
-agrees-of j v = record { list = flat-agrees lists lists-laws j (v .inv); row = flat-agrees rows rows-laws j (v .inv); chain = chain-agrees j v }
+agrees-of : (j k : Journal) → Kept j → Inv k → Agrees j k (unitsOf j k)
+agrees-of j k v w = record { list = flat-agrees lists lists-laws k w; row = flat-agrees rows rows-laws k w; chain = chain-agrees j v }
 
-answers-of : (j : Journal) → Kept j → (c : Command) → Answers j (unitsOf j) c
-answers-of j v c = record {
-  list = answer-of lists lists-laws j (v .inv) c;
-  row = answer-of rows rows-laws j (v .inv) c;
+answers-of : (j k : Journal) → Kept j → Inv k → (c : Command) → Answers j k (unitsOf j k) c
+answers-of j k v w c = record {
+  list = λ h. answer-of lists lists-laws k w c (flat-lends c h);
+  row = λ h. answer-of rows rows-laws k w c (flat-lends c h);
   chain = answer-chain j v c;
 }
 
-pub called-of : (j : Journal) → Kept j → (c : Command) → called (unitsOf j) c ≡ unitsOf (step j c)
-called-of j v c =
-    λ i. units (flat-called lists lists-laws j c (v .inv) i) (flat-called rows rows-laws j c (v .inv) i) (step-chain j v c i)
+called-of : (j k : Journal) → Kept j → Inv k → (c : Command) → called (unitsOf j k) c ≡ unitsOf (step j c) (flatStep k c)
+called-of j k v w c =
+    λ i. units (flat-called lists lists-laws k c w i) (flat-called rows rows-laws k c w i) (step-chain j v c i)
 
-follows : (cs : List Command) (j : Journal) → Kept j → Follows j (unitsOf j) cs
-follows [] j v = agrees-of j v
-follows (c ∷ cs) j v =
-    (agrees-of j v, answers-of j v c, subst (λ u. Follows (step j c) u cs) (sym (called-of j v c)) (follows cs (step j c) (kept-step j c v)))
+follows : (cs : List Command) (j k : Journal) → Kept j → Inv k → Follows flatStep j k (unitsOf j k) cs
+follows [] j k v w = agrees-of j k v w
+follows (c ∷ cs) j k v w = (
+  agrees-of j k v w,
+  answers-of j k v w c,
+  subst (λ u. Follows flatStep (step j c) (flatStep k c) u cs) (sym (called-of j k v w c))
+      (follows cs (step j c) (flatStep k c) (kept-step j c v) (inv-flat k c w)),
+)
 
-pub fresh-units : freshUnits ≡ unitsOf fresh
+fresh-units : freshUnits ≡ unitsOf fresh fresh
 unfolding freshUnits
 fresh-units = λ i. units (fresh-of lists lists-laws i) (fresh-of rows rows-laws i) (fresh-chain i)
 
--- before the first command and after each, for every list of commands
+-- before the first command and after each, for every list of commands: lists and rows follow a journal of their own
+pub own-agreement : (cs : List Command) → OwnAgreement cs
+own-agreement cs = subst (λ u. Follows flatStep fresh fresh u cs) (sym fresh-units) (follows cs fresh fresh kept-fresh inv-fresh)
+
+-- ---- the journals of lists and rows and of the chain unit are alike
+alike-answered : {j k : Journal} → Alike j k → (c : Command) → flat c ≡ true → answered j c ≡ answered k c
+alike-answered {j} {k} a c h =
+    let x = argumentsOf c in
+    ap (λ (n : ℕ). cond (not (fits x)) 3 n)
+    (table-same (facts j x) (facts k x) (ap (any (eqb (x .by))) (a .live)) (ap (any (eqb (x .on))) (a .live)) (ap (any (eqb (x .to))) (a .live))
+    (ap (any (isTo (x .by) (x .on) 0)) (a .grants)) x (λ n. absurd (false≢true (sym (flat-lends c h) ∙ n))))
+
+alike-step : {j k : Journal} → Alike j k → (c : Command) → Alike (step j c) (flatStep k c)
+alike-step {j} {k} a c = go (flat c) (eqb (answered j c) 0) (eqb (answered k c) 0) refl (λ h. ap (λ (n : ℕ). eqb n 0) (alike-answered a c h))
+  where
+    -- an accepted command, as lists and rows have it or not
+    done : (f : Bool) → flat c ≡ f → Alike (apply j c) (cond f (apply k c) k)
+    done f h = subst (λ b. Alike (apply j c) (cond b (apply k c) k)) h (alike-apply a c)
+
+    go : (f b d : Bool) → flat c ≡ f → (f ≡ true → b ≡ d) → Alike (cond b (apply j c) j) (cond f (cond d (apply k c) k) k)
+    go true true true h e = done true h
+    go true false false h e = a
+    go true true false h e = absurd (false≢true (sym (e refl)))
+    go true false true h e = absurd (false≢true (e refl))
+    go false true d h e = done false h
+    go false false d h e = a
+
+alike-agrees : {j k : Journal} {u : Units} → Alike j k → Agrees j k u → Agrees j j u
+alike-agrees {j} {k} {u} a g = record { list = same lists (u .lists) (g .list); row = same rows (u .rows) (g .row); chain = g .chain }
+  where
+    same : (L : Layout) (s : List ℕ) → FlatAgrees L k s → FlatAgrees L j s
+    same L s f = record {
+      number = f .number;
+      yes = λ p o r. f .yes p o r ∙ ap (any (isTo p o r)) (sym (a .grants));
+      unchanged = f .unchanged;
+    }
+
+alike-answers : {j k : Journal} {u : Units} {c : Command} → Alike j k → Answers j k u c → Answers j j u c
+alike-answers {c = c} a g = record {
+  list = λ h. g .list h ∙ sym (alike-answered a c h);
+  row = λ h. g .row h ∙ sym (alike-answered a c h);
+  chain = g .chain;
+}
+
+alike-follows : (cs : List Command) (j k : Journal) (u : Units) → Alike j k → Follows flatStep j k u cs → Follows step j j u cs
+alike-follows [] j k u a f = alike-agrees a f
+alike-follows (c ∷ cs) j k u a f =
+    (alike-agrees a (f .0), alike-answers a (f .1), alike-follows cs (step j c) (flatStep k c) (called u c) (alike-step a c) (f .2))
+
+-- demand 3: before the first command and after each, for every list of commands, all three units follow one journal
 pub agreement : (cs : List Command) → Agreement cs
-agreement cs = subst (λ u. Follows fresh u cs) (sym fresh-units) (follows cs fresh kept-fresh)
+agreement cs = alike-follows cs fresh fresh freshUnits (record { live = refl; grants = refl }) (own-agreement cs)
+
+-- the two journals after any list of commands
+pub own-journal : (cs : List Command) (j k : Journal) → Alike j k → Alike (fed step j cs) (fed flatStep k cs)
+own-journal [] j k a = a
+own-journal (c ∷ cs) j k a = own-journal cs (step j c) (flatStep k c) (alike-step a c)

@@ -15,7 +15,7 @@ use Rattle.model.specs.Sets.{any, tabulate}
 use Rattle.model.specs.Bits.{bit, withBit, withoutBit}
 use Rattle.model.specs.Journal.{grant}
 use Rattle.model.specs.Cells.{at, image}
-use Rattle.model.specs.Unit.{Layout, lists, rows, liveIn, grantBit, build, held, after, freshImage}
+use Rattle.model.specs.Unit.{Layout, lists, rows, liveIn, grantBit, build, held, created, deleted, allowed, withdrawn, freshImage}
 use Rattle.model.proofs.Sets.{iff, fst, snd, both, by-cases}
 use Rattle.model.proofs.Indexed.{length-tabulate}
 use Rattle.model.proofs.Bits.{bit-of-zero, bit-with, bit-without, with-lt, without-lt}
@@ -23,7 +23,6 @@ use Rattle.model.proofs.Cells.{at-image, ext-at, image-lt, length-image
 use Rattle.model.proofs.Invariant.{ranged}
 use Rattle.model.proofs.Unit.{Laws, build-cong, lists-laws, rows-laws}
 use lib.Pow.{pow-pos}
-use Rattle.model.specs.declared.Command.the-variants.{Create, Delete, Allow, Withdraw}
 
 -- each cell has w bits
 abbrev pub Cells : ℕ → List ℕ → Type 0
@@ -168,9 +167,9 @@ module _ (L : Layout) (W : Laws L) where
       same false = refl
 
   -- create: the item's bit of the live set, then an edit grant to by
-  pub create-is : (s : List ℕ) → length s ≡ L .cells → (a by on c b : ℕ) → on < 64 → b < L .width → on ≡ c * L .width + b
-      → after L (marked s c b) (Allow a by on 0 0) ≡ after L s (Create by on)
-  create-is s l a by on c b o k e =
+  pub create-is : (s : List ℕ) → length s ≡ L .cells → (by on c b : ℕ) → on < 64 → b < L .width → on ≡ c * L .width + b
+      → allowed L (marked s c b) (grant by on 0 0) ≡ created L s by on
+  create-is s l by on c b o k e =
       let j : c < length s = cell-lt s c b on l (omega arith) e k in
       let m : (i : ℕ) → at (L .width) (marked s c b) i ≡ at (L .width) s i || eqb i on = λ i. rw e (at-marked (L .width) (W .wide) s c b k i j) in
       build-cong L W _ _ _ _ (λ i u. m i ∙ or-comm (liveIn L s i) (eqb i on))
@@ -178,44 +177,50 @@ module _ (L : Layout) (W : Laws L) where
 
   module _ (s : List ℕ) (l : length s ≡ L .cells) (h : Cells (L .width) s) where
     -- allow: the bit of its grant
-    pub allow-is : (by to on right depth c b : ℕ) → to < 64 → on < 64 → right < 8 → depth < 8 → b < L .width
-        → 64 + L .place (grant to on right depth) ≡ c * L .width + b → marked s c b ≡ after L s (Allow by to on right depth)
-    allow-is by to on right depth c b t o r d k e =
+    pub allow-is : (to on right depth c b : ℕ) → to < 64 → on < 64 → right < 8 → depth < 8 → b < L .width
+        → 64 + L .place (grant to on right depth) ≡ c * L .width + b → marked s c b ≡ allowed L s (grant to on right depth)
+    allow-is to on right depth c b t o r d k e =
         let p = W .below (grant to on right depth) (in-range to on right depth t o r d) in
         let j : c < length s = cell-lt s c b _ l (omega arith) e k in
         build-is (marked s c b) _ _ (length-set s _ _ ∙ l) (cells-marked (L .width) (W .wide) s c b k j h)
         (λ i u. at-marked (L .width) (W .wide) s c b k i j ∙ rw (ne-eqb i (c * L .width + b) (λ z. omega arith)) (or-false _))
         (λ i u. at-marked (L .width) (W .wide) s c b k (64 + i) j ∙ rw (← e) (or-comm (grantBit L s i) (eqb (64 + i) (64 + L .place (grant to on right depth))) ∙ ap (λ x. x || grantBit L s i) (shifted i (L .place (grant to on right depth)))))
 
-    -- withdraw, in a layout without depth: the bit of its grant
-    pub withdraw-is : Flat L → (by to on right c b : ℕ) → to < 64 → on < 64 → right < 8 → b < L .width
-        → 64 + L .place (grant to on right 0) ≡ c * L .width + b → cleared s c b ≡ after L s (Withdraw by to on right)
-    withdraw-is F by to on right c b t o r k e =
-        let g : ranged (grant to on right 0) ≡ true = in-range to on right 0 t o r (omega arith) in
-        let p = W .below (grant to on right 0) g in
+    -- the bit of one place to 0
+    pub cleared-is : (p c b : ℕ) → p < L .size → b < L .width → 64 + p ≡ c * L .width + b
+        → cleared s c b ≡ build L (liveIn L s) (λ k. grantBit L s k && not (eqb p k))
+    cleared-is p c b m k e =
         let j : c < length s = cell-lt s c b _ l (omega arith) e k in
         build-is (cleared s c b) _ _ (length-set s _ _ ∙ l) (cells-cleared (L .width) (W .wide) s c b k j h)
         (λ i u. at-cleared (L .width) (W .wide) s c b k i j ∙ rw (ne-eqb i (c * L .width + b) (λ z. omega arith)) (and-true _))
-        (λ i u. at-cleared (L .width) (W .wide) s c b k (64 + i) j ∙ rw (← e) (ap (λ x. grantBit L s i && not x) (about i g u)))
+        (λ i u. at-cleared (L .width) (W .wide) s c b k (64 + i) j ∙ rw (← e) (ap (λ x. grantBit L s i && not x) (shifted i p)))
+
+    -- withdraw, in a layout without depth: the bit of its grant
+    pub withdraw-is : Flat L → (to on right c b : ℕ) → to < 64 → on < 64 → right < 8 → b < L .width
+        → 64 + L .place (grant to on right 0) ≡ c * L .width + b → cleared s c b ≡ withdrawn L s to on right
+    withdraw-is F to on right c b t o r k e =
+        let g : ranged (grant to on right 0) ≡ true = in-range to on right 0 t o r (omega arith) in
+        cleared-is (L .place (grant to on right 0)) c b (W .below (grant to on right 0) g) k e
+        ∙ build-cong L W _ _ _ _ (λ i u. refl) (λ i u. ap (λ x. grantBit L s i && not x) (about i g u))
       where
         about : (i : ℕ) → ranged (grant to on right 0) ≡ true → i < L .size
-            → eqb (64 + i) (64 + L .place (grant to on right 0)) ≡ eqb (L .person i) to && eqb (L .item i) on && eqb (L .right i) right
+            → eqb (L .place (grant to on right 0)) i ≡ eqb (L .person i) to && eqb (L .item i) on && eqb (L .right i) right
         about i g u =
             iff _ _
-            (λ z. let q : i ≡ L .place (grant to on right 0) = (let y = eqb-true (64 + i) (64 + L .place (grant to on right 0)) z in omega arith) in
+            (λ z. let q : i ≡ L .place (grant to on right 0) = sym (eqb-true (L .place (grant to on right 0)) i z) in
             both (both (eq-eqb _ _ (ap (L .person) q ∙ W .person-of _ g)) (eq-eqb _ _ (ap (L .item) q ∙ W .item-of _ g))) (eq-eqb _ _ (ap (L .right) q ∙ W .right-of _ g)))
             (λ z. let x : L .person i ≡ to = eqb-true _ _ (fst _ (eqb (L .item i) on) (fst _ (eqb (L .right i) right) z)) in
             let y : L .item i ≡ on = eqb-true _ _ (snd (eqb (L .person i) to) _ (fst _ (eqb (L .right i) right) z)) in
             let v : L .right i ≡ right = eqb-true _ _ (snd (eqb (L .person i) to && eqb (L .item i) on) _ z) in
             let q : i ≡ L .place (grant to on right 0) = sym (F .onto i u) ∙ ap (L .place) (let q : grant (L .person i) (L .item i) (L .right i) 0 ≡ grant to on right 0 = cc in q) in
-            eq-eqb (64 + i) (64 + L .place (grant to on right 0)) (ap (λ (n : ℕ). 64 + n) q))
+            eq-eqb (L .place (grant to on right 0)) i (sym q))
 
     -- delete: any cells with every bit but those that name the item
-    pub delete-is : (t : List ℕ) (by on : ℕ) → length t ≡ L .cells → Cells (L .width) t
+    pub delete-is : (t : List ℕ) (on : ℕ) → length t ≡ L .cells → Cells (L .width) t
         → ((i : ℕ) → i < 64 → liveIn L t i ≡ liveIn L s i && not (eqb i on))
         → ((k : ℕ) → k < L .size → grantBit L t k ≡ grantBit L s k && not (eqb (L .person k) on || eqb (L .item k) on))
-        → t ≡ after L s (Delete by on)
-    delete-is t by on m f e d = build-is t _ _ m f e d
+        → t ≡ deleted L s on
+    delete-is t on m f e d = build-is t _ _ m f e d
 
   -- a fresh unit: any cells with the root item's bit and its edit grant
   pub fresh-is : (t : List ℕ) → length t ≡ L .cells → Cells (L .width) t → ((i : ℕ) → i < 64 → liveIn L t i ≡ eqb i 0)

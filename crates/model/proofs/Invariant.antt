@@ -1,17 +1,18 @@
 -- What every journal keeps: item 0 lives, and each grant is within the limits and names living items.
 use mathlib.Core.Path.{_≡_, refl, sym, ap, _∙_}
 use mathlib.Core.Bool.{Bool, true, false, not, _&&_, _||_, cond, false≢true}
-use Prim.Native.Nat.{ℕ, suc}
+use Prim.Native.Nat.{ℕ, suc, _≤_}
 use native.Mathlib.Omega.{arith}
-use borrow.Author.Tests.{eqb-true, eq-eqb}
+use borrow.Author.Tests.{eqb-true, eq-eqb, leb-true}
 use lib.Dec.{eqb}
 use Rattle.model.specs.Sets.{any, all}
-use Rattle.model.specs.Commands.{items, rightDepth}
-use Rattle.model.specs.Answers.{answer}
-use Rattle.model.specs.Journal.{Grant, Loan, Journal, grant, loan, sameGrant, sameLoan, isTo, names, lives, facts, fresh, apply, step}
+use Rattle.model.specs.Commands.{items, rightDepth, fits, argumentsOf}
+use Rattle.model.specs.Answers.{answer, asked, knows}
+use Rattle.model.specs.Journal.{Grant, Loan, Journal, grant, loan, sameGrant, sameLoan, isTo, names, lives, facts, answered, fresh, apply, step}
 use Rattle.model.proofs.Sets.{iff, fst, snd, both, or-left, or-right, all-mono, any-kept, all-keep, any-add, all-add, all-true}
 use Rattle.model.specs.declared.Command.{Command}
 use Rattle.model.specs.declared.Command.the-variants.{Create, Delete, Allow, Withdraw, Lend, Recall}
+use Rattle.model.specs.declared.Arguments.{Arguments}
 use Rattle.model.specs.declared.Facts.{Facts}
 
 pub eqb-sym : (a b : ℕ) → eqb a b ≡ eqb b a
@@ -59,6 +60,13 @@ pub blocked : (n : ℕ) (b : Bool) (m : ℕ) → cond b (suc n) m ≡ 0 → (b �
 blocked n false m e = (refl, e)
 blocked n true m e = absurd (omega arith)
 
+-- the arguments of a check that is not refused
+pub asked-in : (p o r : ℕ) → asked p o r ≡ 0 → items p o && rightDepth r 0 ≡ true
+asked-in p o r e = passed 2 (items p o && rightDepth r 0) 0 e .0
+
+pub asked-limits : (p o r : ℕ) → asked p o r ≡ 0 → (p ≤ 63) × (o ≤ 63) × (r ≤ 7)
+asked-limits p o r e = let h = asked-in p o r e in search (fst, snd, leb-true)
+
 -- numbers 1 and 2 are the same whatever comes after them
 unfoldable pub guards : Bool → Bool → ℕ → ℕ
 guards a b n = cond (not a) 1 (cond (not b) 2 n)
@@ -69,29 +77,32 @@ guards-off true true n h = absurd (h refl)
 guards-off true false n h = refl
 guards-off false b n h = refl
 
-pub create-ok : (s : Facts) (by on : ℕ) → answer s (Create by on) ≡ 0 → (items by on ≡ true) × (s .by ≡ true)
-create-ok s by on e =
-    let p = passed 2 (items by on) _ e in
-    let q = passed 3 (s .by) _ (p .1) in
-    (p .0, q .0)
+-- the rows that did not apply
+pub record Accepted (f : Facts) (a : Arguments) : Type 0 where
+  pub fits : fits a ≡ true
+  pub by : f .by ≡ true
+  pub named : knows (a .verb) 5 && not (f .on && f .to) ≡ false
+  pub root : knows (a .verb) 7 && eqb (a .on) 0 ≡ false
+  pub right : knows (a .verb) 9 && eqb (a .right) 0 ≡ false
+  pub full : knows (a .verb) 10 && f .full ≡ false
 
-pub delete-ok : (s : Facts) (by on : ℕ) → answer s (Delete by on) ≡ 0 → (items by on ≡ true) × (eqb on 0 ≡ false)
-delete-ok s by on e =
-    let p = passed 2 (items by on) _ e in
-    let q = passed 3 (s .by) _ (p .1) in
-    let r = passed 4 (s .on) _ (q .1) in
-    let t = blocked 6 (eqb on 0) _ (r .1) in
-    (p .0, t .0)
+pub accepted : (f : Facts) (a : Arguments) → answer f a ≡ 0 → Accepted f a
+accepted f a e =
+    let p3 = passed 2 (fits a) _ e in
+    let p4 = passed 3 (f .by) _ (p3 .1) in
+    let p5 = blocked 4 (knows (a .verb) 5 && not (f .on && f .to)) _ (p4 .1) in
+    let p6 = blocked 5 (knows (a .verb) 6 && f .on) _ (p5 .1) in
+    let p7 = blocked 6 (knows (a .verb) 7 && eqb (a .on) 0) _ (p6 .1) in
+    let p8 = blocked 7 (knows (a .verb) 8 && not (f .edits)) _ (p7 .1) in
+    let p9 = blocked 8 (knows (a .verb) 9 && eqb (a .right) 0) _ (p8 .1) in
+    let p10 = blocked 9 (knows (a .verb) 10 && f .full) _ (p9 .1) in
+    record { fits = p3 .0; by = p4 .0; named = p5 .0; root = p7 .0; right = p9 .0; full = p10 .0 }
 
-pub allow-ok : (s : Facts) (by to on right depth : ℕ) → answer s (Allow by to on right depth) ≡ 0
-    → (items to on && rightDepth right depth ≡ true) × (s .on ≡ true) × (s .to ≡ true)
-allow-ok s by to on right depth e =
-    let p = passed 2 (items by to && items to on && rightDepth right depth) _ e in
-    let q = passed 3 (s .by) _ (p .1) in
-    let r = passed 4 (s .on && s .to) _ (q .1) in
-    let a = p .0 in
-    let b = r .0 in
-    search (fst, snd, both)
+-- both live
+pub both-live : (x y : Bool) → not (x && y) ≡ false → (x ≡ true) × (y ≡ true)
+both-live true true e = (refl, refl)
+both-live true false e = absurd (false≢true (sym e))
+both-live false y e = absurd (false≢true (sym e))
 
 -- ---- the live set after each command
 pub lives-create : (j : Journal) (by on i : ℕ) → lives (apply j (Create by on)) i ≡ eqb i on || lives j i
@@ -118,54 +129,5 @@ unfolding fresh any all
 inv-fresh = record { root = refl; grants-sound = refl }
 
 -- a larger live set
-grow : (f f′ : ℕ → Bool) → ((i : ℕ) → f i ≡ true → f′ i ≡ true) → (g : Grant) → sound f g ≡ true → sound f′ g ≡ true
+pub grow : (f f′ : ℕ → Bool) → ((i : ℕ) → f i ≡ true → f′ i ≡ true) → (g : Grant) → sound f g ≡ true → sound f′ g ≡ true
 grow f f′ e g h = search (fst, snd, both)
-
-inv-apply : (j : Journal) (c : Command) → Inv j → answer (facts j c) c ≡ 0 → Inv (apply j c)
-inv-apply j (Create by on) v e =
-    let k = create-ok (facts j (Create by on)) by on e in
-    let up : (i : ℕ) → lives j i ≡ true → lives (apply j (Create by on)) i ≡ true
-    = λ i h. lives-create j by on i ∙ or-right (eqb i on) (lives j i) h in
-    record {
-      root = up 0 (v .root);
-      grants-sound =
-          all-add (sound (lives (apply j (Create by on)))) sameGrant (grant by on 0 0) (j .grants)
-          (both (both (k .0) refl) (both (up by (k .1)) (lives-create j by on on ∙ or-left (eqb on on) (lives j on) (eq-eqb on on refl))))
-          (all-mono (sound (lives j)) (sound (lives (apply j (Create by on)))) (j .grants) (v .grants-sound) (grow (lives j) (lives (apply j (Create by on))) up));
-    }
-inv-apply j (Delete by on) v e =
-    let k = delete-ok (facts j (Delete by on)) by on e in
-    let low : (i : ℕ) → eqb i on ≡ false → lives j i ≡ true → lives (apply j (Delete by on)) i ≡ true
-    = λ i n h. lives-delete j by on i ∙ both h (ap not n) in
-    record {
-      root = low 0 (eqb-sym 0 on ∙ k .1) (v .root);
-      grants-sound =
-          all-mono _ (sound (lives (apply j (Delete by on)))) _ (all-keep (sound (lives j)) (λ g. not (names on g)) (j .grants) (v .grants-sound))
-          (λ g h. let n = neither (eqb (g .person) on) (eqb (g .item) on) (snd (sound (lives j) g) _ h) in
-          let a : ranged g ≡ true = search (fst, snd) in
-          let b : lives j (g .person) ≡ true = search (fst, snd) in
-          let c : lives j (g .item) ≡ true = search (fst, snd) in
-          both a (both (low (g .person) (n .0) b) (low (g .item) (n .1) c)));
-    }
-inv-apply j (Allow by to on right depth) v e =
-    let k = allow-ok (facts j (Allow by to on right depth)) by to on right depth e in
-    record {
-      root = v .root;
-      grants-sound = all-add (sound (lives j)) sameGrant (grant to on right depth) (j .grants) (both (k .0) (both (k .2) (k .1))) (v .grants-sound);
-    }
-inv-apply j (Withdraw by to on right) v e =
-    record {
-      root = v .root;
-      grants-sound =
-          all-mono _ (sound (lives j)) _ (all-keep (sound (lives j)) (λ g. not (isTo to on right g)) (j .grants) (v .grants-sound))
-          (λ g h. fst (sound (lives j) g) (not (isTo to on right g)) h);
-    }
-inv-apply j (Lend by to on right depth) v e = record { root = v .root; grants-sound = v .grants-sound }
-inv-apply j (Recall by to on right depth) v e = record { root = v .root; grants-sound = v .grants-sound }
-
-pub inv-step : (j : Journal) (c : Command) → Inv j → Inv (step j c)
-inv-step j c v = go (eqb (answer (facts j c) c) 0) refl
-  where
-    go : (b : Bool) → eqb (answer (facts j c) c) 0 ≡ b → Inv (cond b (apply j c) j)
-    go true e = inv-apply j c v (eqb-true _ _ e)
-    go false e = v

@@ -5,21 +5,20 @@ use mathlib.Core.List.{List, [], _∷_}
 use Prim.Native.Nat.{ℕ, zero, suc, _-_, _≤_, _<_}
 use native.Mathlib.Omega.{arith}
 use borrow.Author.Tests.{eqb-true, eq-eqb, leb-true, le-leb, leb-false, not-true}
-use lib.ListN.{length, drop, replicate, length-append, length-replicate, take, length-drop, take-append-drop}
+use lib.ListN.{length, getD, drop, replicate, length-append, length-replicate, take, length-drop, take-append-drop}
 use lib.Seq.{take-at, drop-at, length-take-le}
 use lib.Dec.{eqb, leb}
 use Rattle.model.specs.Sets.{any, all, keep, add}
-use Rattle.model.specs.Commands.{items, rightDepth}
-use Rattle.model.specs.Answers.{answer}
-use Rattle.model.specs.Journal.{Loan, Journal, loan, sameLoan, loanNames, lives, facts, fresh, apply, step}
-use Rattle.model.specs.Loans.{lender, loanItem, loanRight, borrower, loanDepth, wordNames, wordOf, loanOf, rising, insert, loansImage, used, wordGood, loansInOrder, countOf}
+use Rattle.model.specs.Commands.{items, rightDepth, mostLoans, argumentsOf}
+use Rattle.model.specs.Journal.{Loan, Journal, loan, sameLoan, loanNames, lives, facts, answered, fresh, apply, step}
+use Rattle.model.specs.Loans.{lender, loanItem, loanRight, borrower, loanDepth, wordNames, wordOf, loanOf, rising, insert, tableWords, headerOf, headerWord, recounted, headerIn, loansImage, loansWith, loansKept, used, wordGood, loansInOrder, countOf}
+use Rattle.model.specs.declared.loan.Header.{Header}
 use Rattle.model.proofs.Sets.{iff, fst, snd, both, or-right, any-cong, all-mono, all-keep, all-add}
-use Rattle.model.proofs.Invariant.{same-loan, loan-self, passed, blocked, lives-create, lives-delete, neither}
+use Rattle.model.proofs.Invariant.{same-loan, loan-self, accepted, both-live, lives-create, lives-delete, neither}
 use Rattle.model.proofs.Unit.{rangedLoan}
 use Rattle.model.proofs.Rising.{any-insert, all-insert, rising-insert, insert-present, length-insert, keep-insert}
 use Rattle.model.specs.declared.Command.{Command}
 use Rattle.model.specs.declared.Command.the-variants.{Create, Delete, Allow, Withdraw, Lend, Recall}
-use Rattle.model.specs.declared.Facts.{Facts}
 
 -- ---- a loan and its word
 loan-le : (l : Loan) → rangedLoan l ≡ true → (l .lender ≤ 63) × (l .item ≤ 63) × (l .right ≤ 7) × (l .borrower ≤ 63) × (l .depth ≤ 7)
@@ -116,18 +115,47 @@ length-sorted (l ∷ ls) h d =
     length-insert (wordOf l) (sorted ls) (word-in l ls a k ∙ not-true (any (sameLoan l) ls) (fst (not (any (sameLoan l) ls)) (distinct ls) d))
     ∙ ap suc (length-sorted ls k (snd (not (any (sameLoan l) ls)) (distinct ls) d))
 
--- ---- the image of words
-pub used-of : (ws : List ℕ) → used (loansImage ws) ≡ ws
-unfolding used countOf loansImage
-used-of ws = take-at ws (replicate (1024 - length ws) 0) (length ws) refl
+-- ---- a crate above knows the header of a table by these laws: it is read from word 0
+pub header-read : (t : List ℕ) → headerIn t ≡ headerOf (getD t 0 0)
+unfolding headerIn
+header-read t = refl
 
-pub count-of : (ws : List ℕ) → countOf (loansImage ws) ≡ length ws
-unfolding countOf loansImage
-count-of ws = refl
+-- ---- the image of words, whatever else its header says
+module _ (h : Header) (ws : List ℕ) where
+  pub header-of : length ws ≤ mostLoans → headerIn (loansImage h ws) ≡ recounted h (length ws)
+  unfolding headerIn headerOf headerWord recounted loansImage
+  header-of few = refl
 
-pub length-loans : (ws : List ℕ) → length ws ≤ 1024 → length (loansImage ws) ≡ 1025
-unfolding loansImage
-length-loans ws h = simp (length-append, length-replicate) (omega arith)
+  pub count-of : length ws ≤ mostLoans → countOf (loansImage h ws) ≡ length ws
+  unfolding recounted
+  count-of few = ap (λ (x : Header). x .count) (header-of few)
+
+  pub recount-image : (n : ℕ) → loansImage (recounted h n) ws ≡ loansImage h ws
+  unfolding recounted loansImage
+  recount-image n = refl
+
+  pub used-of : length ws ≤ mostLoans → used (loansImage h ws) ≡ ws
+  unfolding used loansImage
+  used-of few = rw (count-of few) (take-at ws (replicate (mostLoans - length ws) 0) (length ws) refl)
+
+  pub length-loans : length ws ≤ mostLoans → length (loansImage h ws) ≡ tableWords
+  unfolding loansImage
+  length-loans few = simp (length-append, length-replicate) (omega arith)
+
+  rest : drop (suc (length ws)) (loansImage h ws) ≡ replicate (mostLoans - length ws) 0
+  unfolding loansImage
+  rest = drop-at ws (replicate (mostLoans - length ws) 0) (length ws) refl
+
+  -- with other loans under the same header
+  pub same-header : length ws ≤ mostLoans → (vs : List ℕ) → loansImage (headerIn (loansImage h ws)) vs ≡ loansImage h vs
+  unfolding headerIn headerOf headerWord recounted loansImage
+  same-header few vs = refl
+
+  pub kept-of : length ws ≤ mostLoans → (p : ℕ → Bool) → loansKept p (loansImage h ws) ≡ loansImage h (keep p ws)
+  kept-of few p = same-header few _ ∙ ap (λ l. loansImage h (keep p l)) (used-of few)
+
+  pub with-of : length ws ≤ mostLoans → (w : ℕ) → loansWith w (loansImage h ws) ≡ loansImage h (insert w ws)
+  with-of few w = same-header few _ ∙ ap (λ l. loansImage h (insert w l)) (used-of few)
 
 zeros : (n : ℕ) → all (eqb 0) (replicate n 0) ≡ true
 unfolding all
@@ -140,29 +168,27 @@ zeros-are [] h = refl
 zeros-are (x ∷ xs) h =
     ap₂ (λ (y : ℕ) (ys : List ℕ). y ∷ ys) (sym (eqb-true 0 x (fst (eqb 0 x) (all (eqb 0) xs) h))) (zeros-are xs (snd (eqb 0 x) (all (eqb 0) xs) h))
 
-rest : (ws : List ℕ) → drop (suc (length ws)) (loansImage ws) ≡ replicate (1024 - length ws) 0
-unfolding loansImage
-rest ws = drop-at ws (replicate (1024 - length ws) 0) (length ws) refl
-
-pub order-loans : (f : ℕ → Bool) (ws : List ℕ) → length ws ≤ 1024 → rising ws ≡ true → all (wordGood f) ws ≡ true → loansInOrder f (loansImage ws) ≡ true
+pub order-loans : (f : ℕ → Bool) (h : Header) (ws : List ℕ) → length ws ≤ mostLoans → rising ws ≡ true → all (wordGood f) ws ≡ true
+    → loansInOrder f (loansImage h ws) ≡ true
 unfolding loansInOrder
-order-loans f ws h r g =
-    rw (count-of ws, used-of ws) (both (both (both (le-leb _ _ h) r) g) (ap (all (eqb 0)) (rest ws) ∙ zeros (1024 - length ws)))
+order-loans f h ws few r g =
+    rw (count-of h ws few, used-of h ws few)
+    (both (both (both (le-leb _ _ few) r) g) (ap (all (eqb 0)) (rest h ws) ∙ zeros (mostLoans - length ws)))
 
-image-of : (t : List ℕ) → length t ≡ 1025 → countOf t ≤ 1024 → all (eqb 0) (drop (suc (countOf t)) t) ≡ true → t ≡ loansImage (used t)
-unfolding countOf used loansImage
+image-of : (t : List ℕ) → length t ≡ tableWords → countOf t ≤ mostLoans → all (eqb 0) (drop (suc (countOf t)) t) ≡ true → t ≡ loansImage (headerIn t) (used t)
+unfolding headerIn headerOf headerWord recounted used loansImage
 image-of [] l few z = absurd (omega arith)
 image-of (n ∷ s) l few z =
     let k : length (take n s) ≡ n = length-take-le n s (omega arith) in
-    let q : drop n s ≡ replicate (1024 - n) 0 = zeros-are (drop n s) z ∙ (let e : length (drop n s) ≡ 1024 - n = simp length-drop (omega arith) in rw e) in
+    let q : drop n s ≡ replicate (mostLoans - n) 0 = zeros-are (drop n s) z ∙ (let e : length (drop n s) ≡ mostLoans - n = simp length-drop (omega arith) in rw e) in
     rw k (ap (λ (l : List ℕ). n ∷ l) (sym (take-append-drop n s) ∙ rw q))
 
 -- a table in order is the image of its loans in use
-pub order-image : (f : ℕ → Bool) (t : List ℕ) → length t ≡ 1025 → loansInOrder f t ≡ true
-    → (countOf t ≤ 1024) × (rising (used t) ≡ true) × (t ≡ loansImage (used t))
+pub order-image : (f : ℕ → Bool) (t : List ℕ) → length t ≡ tableWords → loansInOrder f t ≡ true
+    → (countOf t ≤ mostLoans) × (rising (used t) ≡ true) × (t ≡ loansImage (headerIn t) (used t))
 unfolding loansInOrder
 order-image f t l h =
-    let few : countOf t ≤ 1024 = leb-true (countOf t) 1024 (search (fst, snd)) in
+    let few : countOf t ≤ mostLoans = leb-true (countOf t) mostLoans (search (fst, snd)) in
     let r : rising (used t) ≡ true = search (fst, snd) in
     let z : all (eqb 0) (drop (suc (countOf t)) t) ≡ true = search (fst, snd) in
     (few, r, image-of t l few z)
@@ -183,7 +209,7 @@ pub loans-fresh : LoanInv fresh
 unfolding fresh all distinct
 loans-fresh = record { loans-sound = refl; loans-distinct = refl; loans-few = omega arith }
 
-distinct-add : (l : Loan) (ls : List Loan) → distinct ls ≡ true → distinct (add sameLoan l ls) ≡ true
+pub distinct-add : (l : Loan) (ls : List Loan) → distinct ls ≡ true → distinct (add sameLoan l ls) ≡ true
 unfolding add distinct
 distinct-add l ls d = go (any (sameLoan l) ls) refl
   where
@@ -220,23 +246,12 @@ length-keep f (l ∷ ls) = go (f l) (length-keep f ls)
     go true k = omega arith
     go false k = omega arith
 
-keep-loans : (j : Journal) (f : Loan → Bool) → LoanInv j
+pub keep-loans : (j : Journal) (f : Loan → Bool) → LoanInv j
     → (all (λ l. soundLoan (lives j) l && f l) (keep f (j .loans)) ≡ true) × (distinct (keep f (j .loans)) ≡ true) × (length (keep f (j .loans)) ≤ 1024)
 keep-loans j f v = (all-keep (soundLoan (lives j)) f (j .loans) (v .loans-sound), distinct-keep f (j .loans) (v .loans-distinct), omega (arith, length-keep f (j .loans), v .loans-few))
 
-pub lend-ok : (s : Facts) (by to on right depth : ℕ) → answer s (Lend by to on right depth) ≡ 0
-    → (rangedLoan (loan by on right to depth) ≡ true) × (s .by ≡ true) × (s .on && s .to ≡ true) × (eqb right 0 ≡ false)
-    × (s .full ≡ false)
-lend-ok s by to on right depth e =
-    let p = passed 2 (items by to && items to on && rightDepth right depth) _ e in
-    let q = passed 3 (s .by) _ (p .1) in
-    let r = passed 4 (s .on && s .to) _ (q .1) in
-    let t = blocked 8 (eqb right 0) _ (r .1) in
-    let u = blocked 9 (s .full) _ (t .1) in
-    (p .0, q .0, r .0, t .0, u .0)
-
 -- one more fits where fewer than 1,024 stand
-few-add : (l : Loan) (ls : List Loan) → length ls ≤ 1024 → leb 1024 (length ls) && not (any (sameLoan l) ls) ≡ false → length (add sameLoan l ls) ≤ 1024
+pub few-add : (l : Loan) (ls : List Loan) → length ls ≤ 1024 → leb 1024 (length ls) && not (any (sameLoan l) ls) ≡ false → length (add sameLoan l ls) ≤ 1024
 unfolding add
 few-add l ls h e = go (any (sameLoan l) ls) (leb 1024 (length ls)) refl e
   where
@@ -245,59 +260,5 @@ few-add l ls h e = go (any (sameLoan l) ls) (leb 1024 (length ls)) refl e
     go false true q e = absurd (false≢true (sym e))
     go false false q e = leb-false 1024 (length ls) q
 
-grow-loan : (f f′ : ℕ → Bool) (l : Loan) → ((i : ℕ) → f i ≡ true → f′ i ≡ true) → soundLoan f l ≡ true → soundLoan f′ l ≡ true
+pub grow-loan : (f f′ : ℕ → Bool) (l : Loan) → ((i : ℕ) → f i ≡ true → f′ i ≡ true) → soundLoan f l ≡ true → soundLoan f′ l ≡ true
 grow-loan f f′ l e h = search (fst, snd, both)
-
-loans-apply : (j : Journal) (c : Command) → LoanInv j → answer (facts j c) c ≡ 0 → LoanInv (apply j c)
-loans-apply j (Create by on) v e = record {
-  loans-sound =
-      all-mono (soundLoan (lives j)) (soundLoan (lives (apply j (Create by on)))) (j .loans) (v .loans-sound)
-      (λ l h. grow-loan (lives j) (lives (apply j (Create by on))) l (λ i k. lives-create j by on i ∙ or-right (eqb i on) (lives j i) k) h);
-  loans-distinct = v .loans-distinct;
-  loans-few = v .loans-few;
-}
-loans-apply j (Delete by on) v e =
-    let k = keep-loans j (λ l. not (loanNames on l)) v in
-    let low : (i : ℕ) → eqb i on ≡ false → lives j i ≡ true → lives (apply j (Delete by on)) i ≡ true
-    = λ i n h. lives-delete j by on i ∙ both h (ap not n) in
-    record {
-      loans-sound = all-mono _ (soundLoan (lives (apply j (Delete by on)))) _ (k .0)
-          (λ l h. let n = neither (eqb (l .lender) on || eqb (l .item) on) (eqb (l .borrower) on) (snd (soundLoan (lives j) l) _ h) in
-          let m = neither (eqb (l .lender) on) (eqb (l .item) on) (ap not (n .0)) in
-          let s : soundLoan (lives j) l ≡ true = fst (soundLoan (lives j) l) (not (loanNames on l)) h in
-          let a : rangedLoan l && not (eqb (l .right) 0) ≡ true = fst _ (lives j (l .lender) && lives j (l .item) && lives j (l .borrower)) s in
-          let b : lives j (l .lender) ≡ true = search (fst, snd) in
-          let c : lives j (l .item) ≡ true = search (fst, snd) in
-          let d : lives j (l .borrower) ≡ true = search (fst, snd) in
-          both a (both (both (low (l .lender) (m .0) b) (low (l .item) (m .1) c)) (low (l .borrower) (n .1) d)));
-      loans-distinct = k .1;
-      loans-few = k .2;
-    }
-loans-apply j (Allow by to on right depth) v e =
-    record { loans-sound = v .loans-sound; loans-distinct = v .loans-distinct; loans-few = v .loans-few }
-loans-apply j (Withdraw by to on right) v e =
-    record { loans-sound = v .loans-sound; loans-distinct = v .loans-distinct; loans-few = v .loans-few }
-loans-apply j (Lend by to on right depth) v e =
-    let k = lend-ok (facts j (Lend by to on right depth)) by to on right depth e in
-    let l = loan by on right to depth in
-    let a : lives j on ≡ true = fst (lives j on) (lives j to) (k .2) in
-    let b : lives j to ≡ true = snd (lives j on) (lives j to) (k .2) in
-    record {
-      loans-sound = all-add (soundLoan (lives j)) sameLoan (loan by on right to depth) (j .loans) (both (both (k .0) (ap not (k .3))) (both (both (k .1) a) b)) (v .loans-sound);
-      loans-distinct = distinct-add (loan by on right to depth) (j .loans) (v .loans-distinct);
-      loans-few = few-add (loan by on right to depth) (j .loans) (v .loans-few) (k .4);
-    }
-loans-apply j (Recall by to on right depth) v e =
-    let k = keep-loans j (λ l. not (sameLoan (loan by on right to depth) l)) v in
-    record {
-      loans-sound = all-mono _ (soundLoan (lives j)) _ (k .0) (λ l h. fst (soundLoan (lives j) l) (not (sameLoan (loan by on right to depth) l)) h);
-      loans-distinct = k .1;
-      loans-few = k .2;
-    }
-
-pub loans-step : (j : Journal) (c : Command) → LoanInv j → LoanInv (step j c)
-loans-step j c v = go (eqb (answer (facts j c) c) 0) refl
-  where
-    go : (b : Bool) → eqb (answer (facts j c) c) 0 ≡ b → LoanInv (cond b (apply j c) j)
-    go true e = loans-apply j c v (eqb-true _ _ e)
-    go false e = v

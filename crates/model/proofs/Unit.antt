@@ -2,18 +2,19 @@
 use mathlib.Core.Path.{_≡_, refl, sym, ap, _∙_}
 use mathlib.Core.Bool.{Bool, true, false, not, _&&_, _||_, cond, false≢true}
 use mathlib.Core.List.{List}
-use Prim.Native.Nat.{ℕ, zero, suc, _+_, _-_, _*_, _^_, _≤_, _<_}
+use Prim.Native.Nat.{ℕ, zero, suc, _+_, _-_, _*_, _%_, _^_, _≤_, _<_}
 use native.Mathlib.Omega.{arith}
 use borrow.Author.Tests.{eqb-true, eq-eqb, leb-true, ltb-true, lt-ltb, le-ltb, le-leb, ltb-false}
 use lib.ListN.{length, getD, List·getD-eq-default}
 use lib.Pow.{pow-pos}
 use lib.Dec.{eqb, leb, ltb}
 use Rattle.model.specs.Sets.{any, all}
-use Rattle.model.specs.Commands.{items, rightDepth, fits}
-use Rattle.model.specs.Answers.{answer, table}
-use Rattle.model.specs.Journal.{Grant, Loan, Journal, grant, sameGrant, isTo, names, lives, facts, fresh, apply, step, hasGrant}
+use Rattle.model.specs.Commands.{items, rightDepth, argumentsOf, fits}
+use Rattle.model.specs.Answers.{table, knows, flat}
+use Rattle.model.specs.Machine.{answerOf}
+use Rattle.model.specs.Journal.{Grant, Loan, Journal, grant, sameGrant, isTo, names, lives, facts, answered, fresh, apply, step, hasGrant}
 use Rattle.model.specs.Cells.{at}
-use Rattle.model.specs.Unit.{Layout, lists, rows, grantBytes, depths, liveIn, grantBit, build, held, inOrder, factsOf, guarded, answerOf, after, stepOf, freshImage, flat}
+use Rattle.model.specs.Unit.{Layout, lists, rows, grantBytes, depths, liveIn, grantBit, build, held, inOrder, factsOf, guarded, created, deleted, allowed, withdrawn, flatUnit, freshImage}
 use Rattle.model.proofs.Sets.{iff, fst, snd, both, or-left, or-right, by-cases, find, any-cong, any-same, any-kept, any-add, any-swap}
 use Rattle.model.proofs.Indexed.{below-intro, below-elim}
 use Rattle.model.proofs.Cells.{image-lt, at-image, image-cong, length-image}
@@ -21,6 +22,7 @@ use Rattle.model.proofs.Commands.{ranged-command}
 use Rattle.model.proofs.Invariant.{same-grant, lives-create, lives-delete, ranged, sound, Inv}
 use Rattle.model.specs.declared.Command.{Command}
 use Rattle.model.specs.declared.Command.the-variants.{Create, Delete, Allow, Withdraw, Lend, Recall}
+use Rattle.model.specs.declared.Arguments.{Arguments}
 use Rattle.model.specs.declared.Facts.{Facts}
 
 -- what a layout must keep
@@ -54,13 +56,8 @@ rangedLoan l = items (l .lender) (l .borrower) && items (l .borrower) (l .item) 
 
 -- answers that rest on equal facts are equal; only lend asks whether the loans are full
 pub table-same : (f g : Facts) → f .by ≡ g .by → f .on ≡ g .on → f .to ≡ g .to → f .edits ≡ g .edits
-    → (c : Command) → (flat c ≡ false → f .full ≡ g .full) → table f c ≡ table g c
-table-same f g a b t e (Create by on) h = rw (a, b)
-table-same f g a b t e (Delete by on) h = rw (a, b, e)
-table-same f g a b t e (Allow by to on right depth) h = rw (a, b, t, e)
-table-same f g a b t e (Withdraw by to on right) h = rw (a, b, t, e)
-table-same f g a b t e (Lend by to on right depth) h = rw (a, b, t, h refl)
-table-same f g a b t e (Recall by to on right depth) h = rw (a, b, t)
+    → (a : Arguments) → (knows (a .verb) 10 ≡ true → f .full ≡ g .full) → table f a ≡ table g a
+table-same f g x y z w a h = by-cases (knows (a .verb) 10) (λ l. rw (x, y, z, w, h l)) (λ l. rw (x, y, z, w, l))
 
 pub to-parts : (p o r : ℕ) (g : Grant) → isTo p o r g ≡ true → (g .person ≡ p) × (g .item ≡ o) × (g .right ≡ r)
 to-parts p o r g e = search (fst, snd, eqb-true)
@@ -188,42 +185,56 @@ module _ (L : Layout) (W : Laws L) where
   pub guard-of : (j : Journal) → Inv j → (n : ℕ) → guarded L (imageOf j) n ≡ n
   guard-of j v n = rw (eq-eqb _ _ (length-of j), order-of j v)
 
-  pub answer-of : (j : Journal) → Inv j → (c : Command) → flat c ≡ true → answerOf L (imageOf j) c ≡ answer (facts j c) c
+  -- a command's number, where the table asks nothing of loans
+  pub answer-of : (j : Journal) → Inv j → (c : Command) → knows (argumentsOf c .verb) 10 ≡ false → answerOf (flatUnit L) (imageOf j) c ≡ answered j c
   answer-of j v c h =
+      let a = argumentsOf c in
       guard-of j v _
-      ∙ by-cases (fits c)
-      (λ t. let r = ranged-command c t in
-      rw t (table-same (factsOf L (imageOf j) c) (facts j c) (live-of j _ (le-leb _ 63 (r .by))) (live-of j _ (le-leb _ 63 (r .on))) (live-of j _ (le-leb _ 63 (r .to)))
-      (held-of j v _ _ 0 (both (both (le-leb _ 63 (r .by)) (le-leb _ 63 (r .on))) refl)) c (λ n. absurd (false≢true (sym n ∙ h)))))
+      ∙ by-cases (fits a)
+      (λ t. let r = ranged-command a t in
+      rw t (table-same (factsOf L (imageOf j) a) (facts j a) (live-of j _ (le-leb _ 63 (r .by))) (live-of j _ (le-leb _ 63 (r .on))) (live-of j _ (le-leb _ 63 (r .to)))
+      (held-of j v _ _ 0 (both (both (le-leb _ 63 (r .by)) (le-leb _ 63 (r .on))) refl)) a (λ n. absurd (false≢true (sym h ∙ n)))))
       (λ t. rw t)
 
-  -- ---- the image after a command
-  pub after-of : (j : Journal) → Inv j → (c : Command) → answer (facts j c) c ≡ 0 → after L (imageOf j) c ≡ imageOf (apply j c)
+  -- ---- what the commands do to an image, as what they do to the journal
+  pub created-of : (j : Journal) → Inv j → (by on : ℕ) → created L (imageOf j) by on ≡ imageOf (apply j (Create by on))
   unfolding imageOf
-  after-of j v (Create by on) e =
+  created-of j v by on =
       build-cong _ _ _ _ (λ i h. ap (λ b. eqb i on || b) (live-of j i h) ∙ sym (lives-create j by on i))
       (λ k h. ap (λ b. eqb (L .place (grant by on 0 0)) k || b) (bit-at-of j k h)
       ∙ sym (any-add (λ g. eqb (L .place g) k) sameGrant same-grant (grant by on 0 0) (j .grants)))
-  after-of j v (Delete by on) e =
+
+  pub deleted-of : (j : Journal) → Inv j → (by on : ℕ) → deleted L (imageOf j) on ≡ imageOf (apply j (Delete by on))
+  unfolding imageOf
+  deleted-of j v by on =
       build-cong _ _ _ _ (λ i h. ap (λ b. b && not (eqb i on)) (live-of j i h) ∙ sym (lives-delete j by on i))
       (λ k h. ap (λ b. b && not (eqb (L .person k) on || eqb (L .item k) on)) (bit-at-of j k h)
       ∙ sym (any-kept (λ g. eqb (L .place g) k) (λ g. not (names on g)) (sound (lives j)) _ (j .grants) (v .grants-sound)
       (λ g s q. let rg : ranged g ≡ true = fst (ranged g) _ s in
       let z : L .place g ≡ k = eqb-true _ _ q in
       rw (← z, W .person-of g rg, W .item-of g rg))))
-  after-of j v (Allow by to on right depth) e =
+
+  pub allowed-of : (j : Journal) → Inv j → (by to on right depth : ℕ) → allowed L (imageOf j) (grant to on right depth) ≡ imageOf (apply j (Allow by to on right depth))
+  unfolding imageOf
+  allowed-of j v by to on right depth =
       build-cong _ _ _ _ (λ i h. live-of j i h)
       (λ k h. ap (λ b. eqb (L .place (grant to on right depth)) k || b) (bit-at-of j k h)
       ∙ sym (any-add (λ g. eqb (L .place g) k) sameGrant same-grant (grant to on right depth) (j .grants)))
-  after-of j v (Withdraw by to on right) e =
+
+  pub withdrawn-of : (j : Journal) → Inv j → (by to on right : ℕ) → withdrawn L (imageOf j) to on right ≡ imageOf (apply j (Withdraw by to on right))
+  unfolding imageOf
+  withdrawn-of j v by to on right =
       build-cong _ _ _ _ (λ i h. live-of j i h)
       (λ k h. ap (λ b. b && not (eqb (L .person k) to && eqb (L .item k) on && eqb (L .right k) right)) (bit-at-of j k h)
       ∙ sym (any-kept (λ g. eqb (L .place g) k) (λ g. not (isTo to on right g)) (sound (lives j)) _ (j .grants) (v .grants-sound)
       (λ g s q. let rg : ranged g ≡ true = fst (ranged g) _ s in
       let z : L .place g ≡ k = eqb-true _ _ q in
       rw (← z, W .person-of g rg, W .item-of g rg, W .right-of g rg))))
-  after-of j v (Lend by to on right depth) e = refl
-  after-of j v (Recall by to on right depth) e = refl
+
+  -- an image tells of live items and grants alone
+  pub same-image : (j k : Journal) → j .live ≡ k .live → j .grants ≡ k .grants → imageOf j ≡ imageOf k
+  unfolding imageOf
+  same-image j k e d = λ i. build L (λ n. any (eqb n) (e i)) (λ n. any (λ g. eqb (L .place g) n) (d i))
 
   pub fresh-of : freshImage L ≡ imageOf fresh
   unfolding imageOf fresh freshImage any
@@ -232,40 +243,6 @@ module _ (L : Layout) (W : Laws L) where
       or-false : (b : Bool) → b ≡ b || false
       or-false true = refl
       or-false false = refl
-
-  -- a command that the unit lacks
-  pub idle : (j : Journal) (c : Command) → flat c ≡ false → imageOf j ≡ imageOf (apply j c)
-  unfolding imageOf
-  idle j (Create by on) h = absurd (false≢true (sym h))
-  idle j (Delete by on) h = absurd (false≢true (sym h))
-  idle j (Allow by to on right depth) h = absurd (false≢true (sym h))
-  idle j (Withdraw by to on right) h = absurd (false≢true (sym h))
-  idle j (Lend by to on right depth) h = refl
-  idle j (Recall by to on right depth) h = refl
-
-  after-idle : (j : Journal) (c : Command) → flat c ≡ false → after L (imageOf j) c ≡ imageOf j
-  after-idle j (Create by on) h = absurd (false≢true (sym h))
-  after-idle j (Delete by on) h = absurd (false≢true (sym h))
-  after-idle j (Allow by to on right depth) h = absurd (false≢true (sym h))
-  after-idle j (Withdraw by to on right) h = absurd (false≢true (sym h))
-  after-idle j (Lend by to on right depth) h = refl
-  after-idle j (Recall by to on right depth) h = refl
-
-  cond-same : (b : Bool) (x : List ℕ) → cond b x x ≡ x
-  cond-same true x = refl
-  cond-same false x = refl
-
-  pub step-of : (j : Journal) → Inv j → (c : Command) → stepOf L (imageOf j) c ≡ imageOf (step j c)
-  step-of j v c =
-      by-cases (flat c) (λ h. rw (answer-of j v c h) (go (eqb (answer (facts j c) c) 0) refl)) (λ h. rw (after-idle j c h, cond-same (eqb (answerOf L (imageOf j) c) 0) (imageOf j)) (still (eqb (answer (facts j c) c) 0) h))
-    where
-      go : (b : Bool) → eqb (answer (facts j c) c) 0 ≡ b → cond b (after L (imageOf j) c) (imageOf j) ≡ imageOf (cond b (apply j c) j)
-      go true e = after-of j v c (eqb-true _ _ e)
-      go false e = refl
-
-      still : (b : Bool) → flat c ≡ false → imageOf j ≡ imageOf (cond b (apply j c) j)
-      still true h = idle j c h
-      still false h = refl
 
 -- ---- the three layouts
 ranged-le : (g : Grant) → ranged g ≡ true → (g .person ≤ 63) × (g .item ≤ 63) × (g .right ≤ 7) × (g .depth ≤ 7)
@@ -303,3 +280,18 @@ bytes-laws = record {
   item-of = λ g h. omega (arith, ranged-le g h);
   right-of = λ g h. omega (arith, ranged-le g h);
 }
+
+-- ---- a place of a chain unit's grants is of one grant
+depth-of : (g : Grant) → ranged g ≡ true → grantBytes .place g % 8 ≡ g .depth
+unfolding grantBytes
+depth-of g h = let d : g .depth ≤ 7 = search (fst, snd, leb-true) in omega arith
+
+pub place-same : (g h : Grant) → ranged g ≡ true → ranged h ≡ true → eqb (grantBytes .place h) (grantBytes .place g) ≡ sameGrant g h
+place-same g h r k =
+    iff (eqb (grantBytes .place h) (grantBytes .place g)) (sameGrant g h)
+    (λ e. let q : grantBytes .place h ≡ grantBytes .place g = eqb-true (grantBytes .place h) (grantBytes .place g) e in
+    both (both (both (eq-eqb _ _ (sym (bytes-laws .person-of g r) ∙ ap (grantBytes .person) (sym q) ∙ bytes-laws .person-of h k))
+    (eq-eqb _ _ (sym (bytes-laws .item-of g r) ∙ ap (grantBytes .item) (sym q) ∙ bytes-laws .item-of h k)))
+    (eq-eqb _ _ (sym (bytes-laws .right-of g r) ∙ ap (grantBytes .right) (sym q) ∙ bytes-laws .right-of h k)))
+    (eq-eqb _ _ (sym (depth-of g r) ∙ ap (λ (n : ℕ). n % 8) (sym q) ∙ depth-of h k)))
+    (λ e. eq-eqb _ _ (ap (grantBytes .place) (sym (same-grant g h e))))

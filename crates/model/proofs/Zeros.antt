@@ -14,14 +14,13 @@ use Rattle.model.specs.Sets.{any, anyBelow}
 use Rattle.model.specs.Bits.{bit}
 use Rattle.model.specs.Cells.{at}
 use Rattle.model.specs.Zeros.{zeroed, spaced}
-use Rattle.model.specs.Unit.{Layout, depths, grantBit, after}
+use Rattle.model.specs.Unit.{Layout, depths, grantBit, deleted, withdrawn}
 use Rattle.model.proofs.Sets.{iff, by-cases, find, any-same}
 use Rattle.model.proofs.Indexed.{length-tabulate, getD-tabulate, tabulate-ext, some-intro, some-elim}
 use Rattle.model.proofs.Strides.{Zeroed}
 use Rattle.model.proofs.Bits.{bit-of-zero, some-bit}
 use Rattle.model.proofs.Unit.{Laws, depth-in, small}
 use Rattle.model.proofs.Edits.{Cells, cleared, at-cleared, cells-cleared, build-is, delete-is}
-use Rattle.model.specs.declared.Command.the-variants.{Delete, Withdraw}
 
 -- a cell past the end
 zero-either : (b : Bool) → _≡_ {A = ℕ} (cond b 0 0) 0
@@ -124,7 +123,7 @@ some-depth x h =
 -- ---- the commands that end grants
 module _ (L : Layout) (W : Laws L) (s : List ℕ) (l : length s ≡ L .cells) (h : Cells (L .width) s) where
   -- delete: the item out of the live set, then every cell that names it to 0, in two goes
-  module _ (by on c b : ℕ) (f g : ℕ → Bool) (o : on < 64) (k : b < L .width) (e : on ≡ c * L .width + b) (j : c < length s) where
+  module _ (on c b : ℕ) (f g : ℕ → Bool) (o : on < 64) (k : b < L .width) (e : on ≡ c * L .width + b) (j : c < length s) where
     left : List ℕ
     left = zeroed g (zeroed f (cleared s c b))
 
@@ -140,19 +139,19 @@ module _ (L : Layout) (W : Laws L) (s : List ℕ) (l : length s ≡ L .cells) (h
 
     pub delete-cells : ((i : ℕ) → i < 64 → f (i / L .width) || g (i / L .width) ≡ false)
         → ((i : ℕ) → i < L .size → f ((64 + i) / L .width) || g ((64 + i) / L .width) ≡ eqb (L .person i) on || eqb (L .item i) on)
-        → zeroed g (zeroed f (cleared s c b)) ≡ after L s (Delete by on)
+        → zeroed g (zeroed f (cleared s c b)) ≡ deleted L s on
     unfolding left
     delete-cells n m =
-        delete-is L W s l h left by on (length-zeroed g _ ∙ length-zeroed f _ ∙ length-set s _ _ ∙ l)
+        delete-is L W s l h left on (length-zeroed g _ ∙ length-zeroed f _ ∙ length-set s _ _ ∙ l)
         (cells-zeroed g _ (L .width) (cells-zeroed f _ (L .width) (cells-cleared (L .width) (W .wide) s c b k j h)))
         (λ i u. bits-left i ∙ rw (n i u) (and-true _))
         (λ i u. bits-left (64 + i) ∙ rw (m i u, ne-eqb (64 + i) on (λ z. omega arith), and-true (grantBit L s i)))
 
   -- withdraw: the cell that has every depth of the grant
-  pub withdraw-cell : (by to on right c : ℕ) → c < length s → ((i : ℕ) → i < 64 → eqb (i / L .width) c ≡ false)
+  pub withdraw-cell : (to on right c : ℕ) → c < length s → ((i : ℕ) → i < 64 → eqb (i / L .width) c ≡ false)
       → ((i : ℕ) → i < L .size → eqb ((64 + i) / L .width) c ≡ eqb (L .person i) to && eqb (L .item i) on && eqb (L .right i) right)
-      → set s c 0 ≡ after L s (Withdraw by to on right)
-  withdraw-cell by to on right c j n m =
+      → set s c 0 ≡ withdrawn L s to on right
+  withdraw-cell to on right c j n m =
       zeroed-one s c j
       ∙ build-is L W _ _ _ (length-zeroed _ s ∙ l) (cells-zeroed _ s (L .width) h)
       (λ i u. at-zeroed _ s (L .width) i ∙ rw (n i u) (and-true _))

@@ -2,21 +2,29 @@
 use mathlib.Core.Path.{_≡_}
 use mathlib.Core.Bool.{true, cond}
 use mathlib.Core.List.{List, [], _∷_}
-use Prim.Native.Nat.{ℕ}
+use mathlib.Core.Logic.{_↔_}
+use Prim.Native.Nat.{ℕ, _≤_}
 use lib.ListN.{length}
 use Rattle.model.specs.declared.Command.{Command}
-use Rattle.model.specs.Answers.{answer, asked, nothing}
-use Rattle.model.specs.Journal.{Loan, Journal, grant, standing, LoanStands, facts, fresh, step, hasGrant}
-use Rattle.model.specs.Unit.{Layout, lists, rows, flat, answerOf, stepOf, checkNumber, checkYes, checkLeft, freshImage}
-use Rattle.model.specs.Chain.{Chain, Meets}
+use Rattle.model.specs.Answers.{flat, asked, nothing}
+use Rattle.model.specs.Machine.{answerOf, stepOf}
+use Rattle.model.specs.Journal.{Loan, Journal, grant, standing, LoanStands, answered, fresh, step, hasGrant}
+use Rattle.model.specs.Unit.{Layout, lists, rows, flatUnit, checkNumber, checkYes, checkLeft, freshImage}
+use Rattle.model.specs.Chain.{Chain, Meets, Access}
 use Rattle.model.specs.Images.{Images}
-use Rattle.model.specs.ChainUnit.{chainAnswer, chainStep, chainCheckNumber, chainFound, chainBuffer, chainLeft, chainFresh}
+use Rattle.model.specs.ChainUnit.{chainUnit, chainCheckNumber, chainFound, chainBuffer, chainLeft, chainFresh}
 
 -- a chain of the journal's grants and loans
 abbrev pub JournalChain : Journal → ℕ → ℕ → List ℕ → ℕ → ℕ → Type 0
 JournalChain j o r =
     Chain (λ (l : Loan). l .lender) (λ (l : Loan). l .borrower) (λ (l : Loan). l .depth) (λ p e. standing j (grant p o r e) ≡ true)
     (LoanStands j o r)
+
+-- what 002's rules derive from the journal's grants and loans
+abbrev pub JournalAccess : Journal → ℕ → ℕ → ℕ → ℕ → Type 0
+JournalAccess j =
+    Access (λ (l : Loan). l .lender) (λ (l : Loan). l .borrower) (λ (l : Loan). l .depth) (λ p o r d. standing j (grant p o r d) ≡ true)
+    (LoanStands j)
 
 -- what each unit holds
 pub record Units : Type 0 where
@@ -44,32 +52,50 @@ pub record ChainAgrees (j : Journal) (s : Images) : Type 0 where
   pub beyond : (buffer : List ℕ) → length buffer ≡ 8 → (p o r : ℕ) → (asked p o r ≡ 0 → ⊥)
       → (chainFound s buffer p o r ≡ nothing) × (chainBuffer s buffer p o r ≡ buffer)
       × ((ps : List ℕ) (a : ℕ) → JournalChain j o r ps p a → ⊥)
+  -- 'This equals 002's four inference rules': they derive access at depth d exactly where the check says yes with at least d
+  pub rules : (buffer : List ℕ) → length buffer ≡ 8 → (p o r d : ℕ)
+      → JournalAccess j p o r d ↔ (chainFound s buffer p o r .yes ≡ true) × (d ≤ chainFound s buffer p o r .depth)
   pub unchanged : (buffer : List ℕ) (p o r : ℕ) → chainLeft s buffer p o r ≡ s
 
-pub record Agrees (j : Journal) (u : Units) : Type 0 where
-  pub list : FlatAgrees lists j (u .lists)
-  pub row : FlatAgrees rows j (u .rows)
+-- lists and rows are held to journal k, the chain unit to journal j
+pub record Agrees (j k : Journal) (u : Units) : Type 0 where
+  pub list : FlatAgrees lists k (u .lists)
+  pub row : FlatAgrees rows k (u .rows)
   pub chain : ChainAgrees j (u .chains)
 
--- each unit gives the journal's number to a command that it has
-pub record Answers (j : Journal) (u : Units) (c : Command) : Type 0 where
-  pub list : flat c ≡ true → answerOf lists (u .lists) c ≡ answer (facts j c) c
-  pub row : flat c ≡ true → answerOf rows (u .rows) c ≡ answer (facts j c) c
-  pub chain : chainAnswer (u .chains) c ≡ answer (facts j c) c
+-- each unit gives its journal's number to a command that it has
+pub record Answers (j k : Journal) (u : Units) (c : Command) : Type 0 where
+  pub list : flat c ≡ true → answerOf (flatUnit lists) (u .lists) c ≡ answered k c
+  pub row : flat c ≡ true → answerOf (flatUnit rows) (u .rows) c ≡ answered k c
+  pub chain : answerOf chainUnit (u .chains) c ≡ answered j c
 
 -- 'The same commands go to them and to the journal, in the same order; a unit that lacks a command isn't called for it. Each call
 -- gets the images that the unit's last call left'
 abbrev pub called : Units → Command → Units
 called u c = record {
-  lists = cond (flat c) (stepOf lists (u .lists) c) (u .lists);
-  rows = cond (flat c) (stepOf rows (u .rows) c) (u .rows);
-  chains = chainStep (u .chains) c;
+  lists = cond (flat c) (stepOf (flatUnit lists) (u .lists) c) (u .lists);
+  rows = cond (flat c) (stepOf (flatUnit rows) (u .rows) c) (u .rows);
+  chains = stepOf chainUnit (u .chains) c;
 }
 
--- 'Before the first call and after each'
-abbrev pub Follows : Journal → Units → List Command → Type 0
-Follows j u [] = Agrees j u
-Follows j u (c ∷ cs) = Agrees j u × Answers j u c × Follows (step j c) (called u c) cs
+-- 'Before the first call and after each'; `feed` says what journal k is fed
+abbrev pub Follows : (Journal → Command → Journal) → Journal → Journal → Units → List Command → Type 0
+Follows feed j k u [] = Agrees j k u
+Follows feed j k u (c ∷ cs) = Agrees j k u × Answers j k u c × Follows feed (step j c) (feed k c) (called u c) cs
 
+-- demand 3: one journal for all three
 abbrev pub Agreement : List Command → Type 0
-Agreement cs = Follows fresh freshUnits cs
+Agreement cs = Follows step fresh fresh freshUnits cs
+
+-- a journal that is fed only the commands that lists and rows have
+abbrev pub flatStep : Journal → Command → Journal
+flatStep k c = cond (flat c) (step k c) k
+
+-- lists and rows, held to such a journal
+abbrev pub OwnAgreement : List Command → Type 0
+OwnAgreement cs = Follows flatStep fresh fresh freshUnits cs
+
+-- a journal after these commands, where `feed` feeds it
+abbrev pub fed : (Journal → Command → Journal) → Journal → List Command → Journal
+fed feed j [] = j
+fed feed j (c ∷ cs) = fed feed (feed j c) cs

@@ -1,18 +1,22 @@
 -- What a command answers: document 01's numbers, and the one table of answers for the journal and every unit.
-use mathlib.Core.Bool.{Bool, true, false, not, _&&_, cond}
-use Prim.Native.Nat.{ℕ, min}
+use mathlib.Core.Path.{_≡_}
+use mathlib.Core.Bool.{Bool, true, false, not, _&&_, _||_, cond}
+use Prim.Native.Nat.{ℕ}
 use lib.Dec.{eqb}
 use Rattle.model.specs.declared.Command.{Command}
-use Rattle.model.specs.declared.Command.the-variants.{Create, Delete, Allow, Withdraw, Lend, Recall}
+use Rattle.model.specs.declared.Verb.{Verb}
+use Rattle.model.specs.declared.Verb.the-variants as verb
+use Rattle.model.specs.declared.Edit.{Edit}
+use Rattle.model.specs.declared.Edit.the-variants as edit
+use Rattle.model.specs.declared.Arguments.{Arguments}
 use Rattle.model.specs.declared.Facts.{Facts}
 use Rattle.model.specs.declared.Checked.{Checked}
 use Rattle.model.specs.declared.Checked.the-variants as checked
 use Rattle.model.specs.declared.ChainChecked.{ChainChecked}
 use Rattle.model.specs.declared.ChainChecked.the-variants as chain
-use Rattle.model.specs.declared.Found.{Found}
 use Rattle.model.specs.declared.Answer.{Answer}
 use Rattle.model.specs.declared.Answer.the-variants as is
-use Rattle.model.specs.Commands.{fits, items, rightDepth}
+use Rattle.model.specs.Commands.{argumentsOf, fits, items, rightDepth}
 
 -- n when the test holds, else m: a row of the table, then the rows below it
 infixr 10 _when_else_
@@ -34,7 +38,27 @@ numberOf is.EditRight = 9
 numberOf is.Full = 10
 numberOf is.Malformed = 11
 
--- a check's number, and whether it says yes
+-- the answer whose number is n
+unfoldable pub answerFor : ℕ → Answer
+answerFor n =
+    cond (eqb n 0) is.Done (
+    cond (eqb n 1) is.WrongLength (
+    cond (eqb n 2) is.NotInOrder (
+    cond (eqb n 3) is.OutOfRange (
+    cond (eqb n 4) is.ByDead (
+    cond (eqb n 5) is.NamedDead (
+    cond (eqb n 6) is.AlreadyLive (
+    cond (eqb n 7) is.RootItem (
+    cond (eqb n 8) is.NoEdit (
+    cond (eqb n 9) is.EditRight (
+    cond (eqb n 10) is.Full (
+    is.Malformed)))))))))))
+
+-- r is that answer, and n its number
+abbrev pub Numbered : Answer → ℕ → Type 0
+Numbered r n = (numberOf r ≡ n) × (r ≡ answerFor n)
+
+-- ---- a check: its number, and whether it says yes
 abbrev pub checkedNumber : Checked → ℕ
 checkedNumber checked.Yes = 0
 checkedNumber checked.No = 0
@@ -45,14 +69,22 @@ checkedYes checked.Yes = true
 checkedYes checked.No = false
 checkedYes (checked.Refused a) = false
 
--- the same of a chain unit's check, with depth and number of persons
+-- the answer with this number, and with this yes or no where the number is 0
+unfoldable pub checkedOf : ℕ → Bool → Checked
+checkedOf n said = cond (eqb n 0) (cond said checked.Yes checked.No) (checked.Refused (answerFor n))
+
+-- ---- the same of a chain unit's check
+-- what it finds: yes or no, depth and number of persons
+pub record Found : Type 0 where
+  pub yes : Bool
+  pub depth : ℕ
+  pub persons : ℕ
+
+-- 'On no, .. depth and number 0'
 abbrev pub nothing : Found
 nothing = record { yes = false; depth = 0; persons = 0 }
 
--- what was found, its depth no greater than the greatest
-abbrev pub cappedOf : Found → Found
-cappedOf f = cond (f .yes) (record { yes = true; depth = min (f .depth) 7; persons = f .persons }) nothing
-
+-- its number, and what its answer tells
 abbrev pub chainNumber : ChainChecked → ℕ
 chainNumber (chain.Yes d n) = 0
 chainNumber chain.No = 0
@@ -63,42 +95,51 @@ foundIn (chain.Yes d n) = record { yes = true; depth = d .0; persons = n }
 foundIn chain.No = nothing
 foundIn (chain.Refused a) = nothing
 
--- ---- the table past numbers 3 and 4, command by command
--- create: 6 where on lives
-abbrev pub creates : Facts → ℕ
-creates f = 6 when f .on else 0
+-- the answer to what was found
+unfoldable pub foundSaid : Found → ChainChecked
+foundSaid f = cond (f .yes) (chain.Yes (record { 0 = f .depth }) (f .persons)) chain.No
 
--- delete: 5, then 7 where on is 0, then 8
-abbrev pub deletes : Facts → ℕ → ℕ
-deletes f on = 5 when not (f .on) else 7 when eqb on 0 else 8 when not (f .edits) else 0
+-- the answer with this number, and to what was found where the number is 0
+unfoldable pub chainCheckedOf : ℕ → Found → ChainChecked
+chainCheckedOf n f = cond (eqb n 0) (foundSaid f) (chain.Refused (answerFor n))
 
--- allow and withdraw: 5, then 8
-abbrev pub changes : Facts → ℕ
-changes f = 5 when not (f .on && f .to) else 8 when not (f .edits) else 0
+-- ---- the table
+-- the numbers from 5 on that each command knows, in the words of the table ('create: ..', 'delete: ..', 'lend: ..')
+abbrev pub knows : Verb → ℕ → Bool
+knows verb.Create n = eqb n 6
+knows verb.Delete n = eqb n 5 || eqb n 7 || eqb n 8
+knows verb.Allow n = eqb n 5 || eqb n 8
+knows verb.Withdraw n = eqb n 5 || eqb n 8
+knows verb.Lend n = eqb n 5 || eqb n 9 || eqb n 10
+knows verb.Recall n = eqb n 5
 
--- lend: 5, then 9 for right 0, then 10
-abbrev pub lends : Facts → ℕ → ℕ
-lends f right = 5 when not (f .on && f .to) else 9 when eqb right 0 else 10 when f .full else 0
+-- 'Each has the first four commands': lists and rows are called for what changes every image alike
+abbrev pub flatEdit : Edit → Bool
+flatEdit edit.Create = true
+flatEdit edit.Delete = true
+flatEdit edit.Allow = true
+flatEdit edit.Withdraw = true
+flatEdit edit.Nothing = false
 
--- recall: 5
-abbrev pub recalls : Facts → ℕ
-recalls f = 5 when not (f .on && f .to) else 0
+-- lists and rows have the command
+abbrev pub flat : Command → Bool
+flat c = flatEdit (argumentsOf c .edit)
 
-abbrev pub own : Facts → Command → ℕ
-own f (Create by on) = creates f
-own f (Delete by on) = deletes f on
-own f (Allow by to on right depth) = changes f
-own f (Withdraw by to on right) = changes f
-own f (Lend by to on right depth) = lends f right
-own f (Recall by to on right depth) = recalls f
-
--- 4 comes before these: by does not live
-abbrev pub table : Facts → Command → ℕ
-table f c = 4 when not (f .by) else own f c
+-- 'The lowest number that applies is given': the rows past 3, in their order
+abbrev pub table : Facts → Arguments → ℕ
+table f a =
+    4 when not (f .by) else
+    5 when knows (a .verb) 5 && not (f .on && f .to) else
+    6 when knows (a .verb) 6 && f .on else
+    7 when knows (a .verb) 7 && eqb (a .on) 0 else
+    8 when knows (a .verb) 8 && not (f .edits) else
+    9 when knows (a .verb) 9 && eqb (a .right) 0 else
+    10 when knows (a .verb) 10 && f .full else
+    0
 
 -- and 3 before that: an argument beyond its limit
-abbrev pub answer : Facts → Command → ℕ
-answer f c = 3 when not (fits c) else table f c
+abbrev pub answer : Facts → Arguments → ℕ
+answer f a = 3 when not (fits a) else table f a
 
 -- 'The check knows 1, 2, 3': the number of a question that finds its buffers in order
 abbrev pub asked : ℕ → ℕ → ℕ → ℕ

@@ -5,17 +5,20 @@ use mathlib.Core.List.{List, []}
 use Prim.Native.Nat.{ℕ, _+_, _*_}
 use lib.ListN.{length}
 use lib.Dec.{eqb, leb}
-use Rattle.model.specs.declared.Command.{Command}
+use Rattle.model.specs.declared.Arguments.{Arguments}
 use Rattle.model.specs.declared.Facts.{Facts}
-use Rattle.model.specs.declared.Found.{Found}
+use Rattle.model.specs.declared.Verb.{Verb}
+use Rattle.model.specs.declared.Verb.the-variants as verb
+use Rattle.model.specs.declared.Answer.{Answer}
 use Rattle.model.specs.declared.ChainChecked.{ChainChecked}
 use Rattle.model.specs.Sets.{any}
-use Rattle.model.specs.Commands.{byOf, toOf, onOf}
-use Rattle.model.specs.Answers.{answer, asked, table, chainNumber, foundIn, nothing, _when_else_}
-use Rattle.model.specs.Journal.{loanIn}
-use Rattle.model.specs.Unit.{grantBytes, liveIn, held, inOrder, after, freshImage}
-use Rattle.model.specs.Loans.{wordOf, countOf, used, loansImage, loansInOrder, loansAfter}
-use Rattle.model.specs.Images.{Images}
+use Rattle.model.specs.Machine.{Machine}
+use Rattle.model.specs.Commands.{mostLoans}
+use Rattle.model.specs.Answers.{Found, asked, Numbered, chainCheckedOf, nothing, _when_else_}
+use Rattle.model.specs.Journal.{grant, loanIn}
+use Rattle.model.specs.Unit.{grantBytes, grantCells, liveIn, held, inOrder, created, deleted, allowed, withdrawn, freshImage}
+use Rattle.model.specs.Loans.{wordOf, wordNames, tableWords, countOf, used, loansImage, loansWith, loansKept, freshHeader, loansInOrder}
+use Rattle.model.specs.Images.{Images, images}
 use Rattle.model.specs.Search.{foundOf, chainOf}
 
 -- 'no dead item is named in it (for loans, by the grants' roll)'
@@ -25,39 +28,40 @@ chainInOrder s = inOrder grantBytes (s .grants) && loansInOrder (liveIn grantByt
 -- the answer n, after numbers 1 and 2; room: every other lent buffer has its length
 abbrev pub chainGuarded : Images → Bool → ℕ → ℕ
 chainGuarded s room n =
-    1 when not (eqb (length (s .grants)) 32776 && eqb (length (s .loans)) 1025 && room) else
+    1 when not (eqb (length (s .grants)) grantCells && eqb (length (s .loans)) tableWords && room) else
     2 when not (chainInOrder s) else
     n
 
 -- what the table asks; full: '1,024 loans stand and this is not one of them'
-abbrev pub chainFacts : Images → Command → Facts
-chainFacts s c = record {
-  by = liveIn grantBytes (s .grants) (byOf c);
-  on = liveIn grantBytes (s .grants) (onOf c);
-  to = liveIn grantBytes (s .grants) (toOf c);
-  edits = held grantBytes (s .grants) (byOf c) (onOf c) 0;
-  full = leb 1024 (countOf (s .loans)) && not (any (eqb (wordOf (loanIn c))) (used (s .loans)));
+abbrev pub chainFacts : Images → Arguments → Facts
+chainFacts s a = record {
+  by = liveIn grantBytes (s .grants) (a .by);
+  on = liveIn grantBytes (s .grants) (a .on);
+  to = liveIn grantBytes (s .grants) (a .to);
+  edits = held grantBytes (s .grants) (a .by) (a .on) 0;
+  full = leb mostLoans (countOf (s .loans)) && not (any (eqb (wordOf (loanIn a))) (used (s .loans)));
 }
 
--- a command's number
-abbrev pub chainAnswer : Images → Command → ℕ
-chainAnswer s c = chainGuarded s true (answer (chainFacts s c) c)
+-- both images after an accepted command: what it does to one may ask the other
+abbrev pub chainDone : Images → Arguments → Verb → Images
+chainDone s a verb.Create = images (created grantBytes (s .grants) (a .by) (a .on)) (s .loans)
+chainDone s a verb.Delete = images (deleted grantBytes (s .grants) (a .on)) (loansKept (λ w. not (wordNames (a .on) w)) (s .loans))
+chainDone s a verb.Allow = images (allowed grantBytes (s .grants) (grant (a .to) (a .on) (a .right) (a .depth))) (s .loans)
+chainDone s a verb.Withdraw = images (withdrawn grantBytes (s .grants) (a .to) (a .on) (a .right)) (s .loans)
+chainDone s a verb.Lend = images (s .grants) (loansWith (wordOf (loanIn a)) (s .loans))
+chainDone s a verb.Recall = images (s .grants) (loansKept (λ w. not (eqb (wordOf (loanIn a)) w)) (s .loans))
 
--- the images after an accepted command
-abbrev pub chainAfter : Images → Command → Images
-chainAfter s c = record { grants = after grantBytes (s .grants) c; loans = loansAfter (s .loans) c }
+-- by the verb of its arguments
+abbrev pub chainAfter : Images → Arguments → Images
+chainAfter s a = chainDone s a (a .verb)
 
--- the images after a command: 'all unchanged' where it is refused
-abbrev pub chainStep : Images → Command → Images
-chainStep s c = cond (eqb (chainAnswer s c) 0) (chainAfter s c) s
+-- a chain unit has every command
+abbrev pub chainUnit : Machine Images
+chainUnit = record { has = λ c. true; guard = λ s. chainGuarded s true; facts = chainFacts; after = chainAfter }
 
--- number n and images x of a command: the contract of every command of the unit
-abbrev pub ChainRan : Images → Command → ℕ → Images → Type 0
-ChainRan s c n x = (n ≡ chainAnswer s c) × (x ≡ chainStep s c)
-
--- the same, past numbers 1 to 3
-abbrev pub ChainJudged : Images → Command → ℕ → Images → Type 0
-ChainJudged s c n x = (n ≡ table (chainFacts s c) c) × (x ≡ cond (eqb (table (chainFacts s c) c) 0) (chainAfter s c) s)
+-- answer r and images x of a look at the images alone, which knows 1 and 2
+abbrev pub ChainInspects : Images → Answer → Images → Type 0
+ChainInspects s r x = Numbered r (chainGuarded s true 0) × (x ≡ s)
 
 -- ---- the check of person p on item o, right r, with a chain buffer
 abbrev pub chainCheckNumber : Images → List ℕ → ℕ → ℕ → ℕ → ℕ
@@ -78,16 +82,20 @@ chainLeft s buffer p o r = s
 -- answer a, buffer b and images x of a check: its contract
 abbrev pub ChainChecks : Images → List ℕ → ℕ → ℕ → ℕ → ChainChecked → List ℕ → Images → Type 0
 ChainChecks s buffer p o r a b x =
-    (chainNumber a ≡ chainCheckNumber s buffer p o r) × (foundIn a ≡ chainFound s buffer p o r) × (b ≡ chainBuffer s buffer p o r)
+    (a ≡ chainCheckedOf (chainCheckNumber s buffer p o r) (chainFound s buffer p o r)) × (b ≡ chainBuffer s buffer p o r)
     × (x ≡ chainLeft s buffer p o r)
 
 -- the images of a fresh unit: the fresh grants, and no loan
 unfoldable pub chainFresh : Images
-chainFresh = record { grants = freshImage grantBytes; loans = loansImage [] }
+chainFresh = record { grants = freshImage grantBytes; loans = loansImage freshHeader [] }
 
 -- 'making a fresh unit knows 1 alone': whatever the buffers held
 abbrev pub chainFreshNumber : Images → ℕ
-chainFreshNumber s = 1 when not (eqb (length (s .grants)) 32776 && eqb (length (s .loans)) 1025) else 0
+chainFreshNumber s = 1 when not (eqb (length (s .grants)) grantCells && eqb (length (s .loans)) tableWords) else 0
 
 abbrev pub chainFreshOf : Images → Images
 chainFreshOf s = cond (eqb (chainFreshNumber s) 0) chainFresh s
+
+-- answer r and images x of making a fresh unit
+abbrev pub ChainFreshens : Images → Answer → Images → Type 0
+ChainFreshens s r x = Numbered r (chainFreshNumber s) × (x ≡ chainFreshOf s)

@@ -8,9 +8,10 @@ use lib.ListN.{length}
 use lib.Dec.{eqb, leb}
 use Rattle.model.specs.declared.Command.{Command}
 use Rattle.model.specs.declared.Command.the-variants.{Create, Delete, Allow, Withdraw, Lend, Recall}
+use Rattle.model.specs.declared.Arguments.{Arguments}
 use Rattle.model.specs.declared.Facts.{Facts}
 use Rattle.model.specs.Sets.{any, keep, add}
-use Rattle.model.specs.Commands.{byOf, toOf, onOf, rightOf, depthOf}
+use Rattle.model.specs.Commands.{argumentsOf, mostLoans}
 use Rattle.model.specs.Answers.{answer}
 
 -- 'a set of grants (person, item, right, depth)'
@@ -76,18 +77,22 @@ abbrev pub LoanStands : Journal → ℕ → ℕ → Loan → Type 0
 LoanStands j o r l = (any (sameLoan l) (j .loans) ≡ true) × (l .item ≡ o) × (l .right ≡ r)
 
 -- the loan that lend and recall name
-abbrev pub loanIn : Command → Loan
-loanIn c = loan (byOf c) (onOf c) (rightOf c) (toOf c) (depthOf c)
+abbrev pub loanIn : Arguments → Loan
+loanIn a = loan (a .by) (a .on) (a .right) (a .to) (a .depth)
 
 -- what the table of answers asks of the journal; full: '1,024 loans stand and this is not one of them'
-abbrev pub facts : Journal → Command → Facts
-facts j c = record {
-  by = lives j (byOf c);
-  on = lives j (onOf c);
-  to = lives j (toOf c);
-  edits = hasGrant j (byOf c) (onOf c) 0;
-  full = leb 1024 (length (j .loans)) && not (any (sameLoan (loanIn c)) (j .loans));
+abbrev pub facts : Journal → Arguments → Facts
+facts j a = record {
+  by = lives j (a .by);
+  on = lives j (a .on);
+  to = lives j (a .to);
+  edits = hasGrant j (a .by) (a .on) 0;
+  full = leb mostLoans (length (j .loans)) && not (any (sameLoan (loanIn a)) (j .loans));
 }
+
+-- a command's number
+abbrev pub answered : Journal → Command → ℕ
+answered j c = answer (facts j (argumentsOf c)) (argumentsOf c)
 
 -- 'Fresh: item 0 lives, and one grant stands, to 0 on 0, right 0, depth 0'
 unfoldable pub fresh : Journal
@@ -120,7 +125,7 @@ apply j (Recall by to on right depth) =
 
 -- 'a refused command changes nothing in it'
 abbrev pub step : Journal → Command → Journal
-step j c = cond (eqb (answer (facts j c) c) 0) (apply j c) j
+step j c = cond (eqb (answered j c) 0) (apply j c) j
 
 abbrev pub run : Journal → List Command → Journal
 run j [] = j

@@ -2,19 +2,20 @@
 -- An image begins with the live set (document 01's 'roll'), bits 0 to 63; bit 64 + k is place k, and a layout says which grant has
 -- which place. The three images differ in their layout alone.
 use mathlib.Core.Path.{_≡_}
-use mathlib.Core.Bool.{Bool, true, false, not, _&&_, _||_, cond}
+use mathlib.Core.Bool.{Bool, false, not, _&&_, _||_, cond}
 use mathlib.Core.List.{List, [], _∷_}
 use Prim.Native.Nat.{ℕ, _+_, _-_, _*_, _/_, _%_}
 use lib.ListN.{length}
 use lib.Dec.{eqb, ltb}
-use Rattle.model.specs.declared.Command.{Command}
-use Rattle.model.specs.declared.Command.the-variants.{Create, Delete, Allow, Withdraw, Lend, Recall}
+use Rattle.model.specs.declared.Edit.{Edit}
+use Rattle.model.specs.declared.Edit.the-variants as edit
+use Rattle.model.specs.declared.Arguments.{Arguments}
 use Rattle.model.specs.declared.Facts.{Facts}
-use Rattle.model.specs.declared.Offered.{Offered}
-use Rattle.model.specs.declared.Offered.the-variants as offered
+use Rattle.model.specs.declared.Checked.{Checked}
+use Rattle.model.specs.declared.Answer.{Answer}
 use Rattle.model.specs.Sets.{any, allBelow}
-use Rattle.model.specs.Commands.{byOf, toOf, onOf}
-use Rattle.model.specs.Answers.{answer, table, asked, numberOf, _when_else_}
+use Rattle.model.specs.Answers.{asked, Numbered, checkedOf, flat, _when_else_}
+use Rattle.model.specs.Machine.{Machine}
 use Rattle.model.specs.Journal.{Grant, grant}
 use Rattle.model.specs.Cells.{at, image}
 
@@ -30,11 +31,21 @@ pub record Layout : Type 0 where
   pub item : ℕ → ℕ
   pub right : ℕ → ℕ
 
+-- the cells of the three images
+abbrev pub listWords : ℕ
+listWords = 513
+
+abbrev pub rowBytes : ℕ
+rowBytes = 4104
+
+abbrev pub grantCells : ℕ
+grantCells = 32776
+
 -- 'Lists: 513 words of 64 bits .. Word 1 + 8·on + right has bit s for each person s granted'
 unfoldable pub lists : Layout
 lists = record {
   width = 64;
-  cells = 513;
+  cells = listWords;
   size = 32768;
   place = λ g. (8 * g .item + g .right) * 64 + g .person;
   person = λ k. k % 64;
@@ -46,7 +57,7 @@ lists = record {
 unfoldable pub rows : Layout
 rows = record {
   width = 8;
-  cells = 4104;
+  cells = rowBytes;
   size = 32768;
   place = λ g. (64 * g .person + g .item) * 8 + g .right;
   person = λ k. k / 512;
@@ -58,7 +69,7 @@ rows = record {
 unfoldable pub grantBytes : Layout
 grantBytes = record {
   width = 8;
-  cells = 32776;
+  cells = grantCells;
   size = 262144;
   place = λ g. (512 * g .item + 64 * g .right + g .person) * 8 + g .depth;
   person = λ k. k / 8 % 64;
@@ -68,15 +79,6 @@ grantBytes = record {
 
 abbrev pub depths : List ℕ
 depths = 0 ∷ 1 ∷ 2 ∷ 3 ∷ 4 ∷ 5 ∷ 6 ∷ 7 ∷ []
-
--- 'Each has the first four commands': what lists and rows are called for
-abbrev pub flat : Command → Bool
-flat (Create by on) = true
-flat (Delete by on) = true
-flat (Allow by to on right depth) = true
-flat (Withdraw by to on right) = true
-flat (Lend by to on right depth) = false
-flat (Recall by to on right depth) = false
 
 module _ (L : Layout) where
   -- item i lives
@@ -104,46 +106,50 @@ module _ (L : Layout) where
   guarded s n = 1 when not (eqb (length s) (L .cells)) else 2 when not (inOrder s) else n
 
   -- what the table asks; no loan is ever in the way here
-  abbrev pub factsOf : List ℕ → Command → Facts
-  factsOf s c = record {
-    by = liveIn s (byOf c);
-    on = liveIn s (onOf c);
-    to = liveIn s (toOf c);
-    edits = held s (byOf c) (onOf c) 0;
+  abbrev pub factsOf : List ℕ → Arguments → Facts
+  factsOf s a = record {
+    by = liveIn s (a .by);
+    on = liveIn s (a .on);
+    to = liveIn s (a .to);
+    edits = held s (a .by) (a .on) 0;
     full = false;
   }
 
-  -- a command's number
-  abbrev pub answerOf : List ℕ → Command → ℕ
-  answerOf s c = guarded s (answer (factsOf s c) c)
+  -- the image with item o and an edit grant on it to p
+  abbrev pub created : List ℕ → ℕ → ℕ → List ℕ
+  created s p o = build (λ i. eqb i o || liveIn s i) (λ k. eqb (L .place (grant p o 0 0)) k || grantBit s k)
 
-  -- the image after an accepted command, bit by bit
-  abbrev pub after : List ℕ → Command → List ℕ
-  after s (Create by on) = build (λ i. eqb i on || liveIn s i) (λ k. eqb (L .place (grant by on 0 0)) k || grantBit s k)
-  after s (Delete by on) =
-      build (λ i. liveIn s i && not (eqb i on)) (λ k. grantBit s k && not (eqb (L .person k) on || eqb (L .item k) on))
-  after s (Allow by to on right depth) = build (liveIn s) (λ k. eqb (L .place (grant to on right depth)) k || grantBit s k)
-  after s (Withdraw by to on right) =
-      build (liveIn s) (λ k. grantBit s k && not (eqb (L .person k) to && eqb (L .item k) on && eqb (L .right k) right))
-  after s (Lend by to on right depth) = s
-  after s (Recall by to on right depth) = s
+  -- without item o
+  abbrev pub deleted : List ℕ → ℕ → List ℕ
+  deleted s o = build (λ i. liveIn s i && not (eqb i o)) (λ k. grantBit s k && not (eqb (L .person k) o || eqb (L .item k) o))
 
-  -- the image after a command: 'all unchanged' where it is refused
-  abbrev pub stepOf : List ℕ → Command → List ℕ
-  stepOf s c = cond (eqb (answerOf s c) 0) (after s c) s
+  -- with grant g
+  abbrev pub allowed : List ℕ → Grant → List ℕ
+  allowed s g = build (liveIn s) (λ k. eqb (L .place g) k || grantBit s k)
 
-  -- number n and image x of a command, past numbers 1 to 3
-  abbrev pub Judged : List ℕ → Command → ℕ → List ℕ → Type 0
-  Judged s c n x = (n ≡ table (factsOf s c) c) × (x ≡ cond (eqb (table (factsOf s c) c) 0) (after s c) s)
+  -- without p's grants on o, right r, at any depth
+  abbrev pub withdrawn : List ℕ → ℕ → ℕ → ℕ → List ℕ
+  withdrawn s p o r = build (liveIn s) (λ k. grantBit s k && not (eqb (L .person k) p && eqb (L .item k) o && eqb (L .right k) r))
 
-  -- number n and image x of a command: the contract of every command of a unit
-  abbrev pub Ran : List ℕ → Command → ℕ → List ℕ → Type 0
-  Ran s c n x = (n ≡ answerOf s c) × (x ≡ stepOf s c)
+  -- the image after an accepted command
+  abbrev pub edited : List ℕ → Arguments → Edit → List ℕ
+  edited s a edit.Create = created s (a .by) (a .on)
+  edited s a edit.Delete = deleted s (a .on)
+  edited s a edit.Allow = allowed s (grant (a .to) (a .on) (a .right) (a .depth))
+  edited s a edit.Withdraw = withdrawn s (a .to) (a .on) (a .right)
+  edited s a edit.Nothing = s
 
-  -- the same of any command that is offered; one that the unit lacks is passed over
-  abbrev pub Offers : List ℕ → Command → Offered → List ℕ → Type 0
-  Offers s c (offered.Answered a) x = (flat c ≡ true) × Ran s c (numberOf a) x
-  Offers s c offered.Passed x = (flat c ≡ false) × (x ≡ s)
+  -- by the change that its arguments name
+  abbrev pub after : List ℕ → Arguments → List ℕ
+  after s a = edited s a (a .edit)
+
+  -- a unit of this layout: lists, rows
+  abbrev pub flatUnit : Machine (List ℕ)
+  flatUnit = record { has = flat; guard = guarded; facts = factsOf; after = after }
+
+  -- answer r and image x of a look at the image alone, which knows 1 and 2
+  abbrev pub Inspects : List ℕ → Answer → List ℕ → Type 0
+  Inspects s r x = Numbered r (guarded s 0) × (x ≡ s)
 
   -- the check's number, and whether it says yes
   abbrev pub checkNumber : List ℕ → ℕ → ℕ → ℕ → ℕ
@@ -156,9 +162,9 @@ module _ (L : Layout) where
   abbrev pub checkLeft : List ℕ → ℕ → ℕ → ℕ → List ℕ
   checkLeft s p o r = s
 
-  -- number n, yes b and image x of a check: the contract of the check
-  abbrev pub Checks : List ℕ → ℕ → ℕ → ℕ → ℕ → Bool → List ℕ → Type 0
-  Checks s p o r n b x = (n ≡ checkNumber s p o r) × (b ≡ checkYes s p o r) × (x ≡ checkLeft s p o r)
+  -- answer a and image x of a check: its contract
+  abbrev pub Checks : List ℕ → ℕ → ℕ → ℕ → Checked → List ℕ → Type 0
+  Checks s p o r a x = (a ≡ checkedOf (checkNumber s p o r) (checkYes s p o r)) × (x ≡ checkLeft s p o r)
 
   -- the image of a fresh unit: item 0 lives, with an edit grant on itself
   unfoldable pub freshImage : List ℕ
@@ -170,3 +176,7 @@ module _ (L : Layout) where
 
   abbrev pub freshOf : List ℕ → List ℕ
   freshOf s = cond (eqb (freshNumber s) 0) freshImage s
+
+  -- answer r and image x of making a fresh unit
+  abbrev pub Freshens : List ℕ → Answer → List ℕ → Type 0
+  Freshens s r x = Numbered r (freshNumber s) × (x ≡ freshOf s)

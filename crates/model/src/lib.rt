@@ -1,15 +1,12 @@
 // Items, rights and depths, the commands that carry them, and the one table of refusals.
 ghost use mathlib.Core.Path.{_≡_};
-ghost use mathlib.Core.Bool.{true, _&&_};
-ghost use Prim.Native.Nat.{min};
-ghost use Rattle.model.specs.declared.Command.the-variants.{Allow, Lend, Recall};
-ghost use Rattle.model.specs.Commands.{items, rightDepth, fits, typedOf, withinOf, rawOf, byOf, toOf, onOf, rightOf, depthOf, questionOf};
-ghost use Rattle.model.specs.Answers.{numberOf, checkedNumber, checkedYes, chainNumber, foundIn, cappedOf, table, creates, deletes, changes, lends, recalls};
-ghost use Rattle.model.specs.Unit.{flat};
+ghost use Rattle.model.specs.Commands.{items, rightDepth, arguments, argumentsOf, fits, typedOf, withinOf, rawOf, questionOf, depthOf};
+ghost use Rattle.model.specs.Answers.{numberOf, answerFor, checkedOf, flatEdit, flat, knows, table, _when_else_};
 
 pub mod byte;
 pub mod bytes;
 pub mod live;
+pub mod loan;
 pub mod word;
 
 // An item number, 0 to 63.
@@ -23,6 +20,13 @@ pub struct Depth(u32);
 
 impl Item {
     pub const MAX: u32 = 63;
+
+    // Item 0 (document 01's 'the house').
+    pub fn root() -> Item
+        ensures { λ r. ⌜ r .0 ≡ 0 ⌝ }
+    {
+        Item(0)
+    }
 
     pub fn number(self) -> u32
         ensures { λ r. ⌜ r ≡ self .0 ⌝ }
@@ -51,14 +55,14 @@ impl Right {
 impl Depth {
     pub const MAX: u32 = 7;
 
-    // The depth n, or the greatest where n is above it.
-    pub fn at_most(n: u32) -> Depth
-        ensures { λ r. ⌜ r .0 ≡ min n 7 ⌝ }
+    // The range check of one number.
+    pub fn read(n: u32) -> DepthRead
+        ensures { λ r. ⌜ r ≡ depthOf n ⌝ }
     {
         if n > Depth::MAX {
-            return Depth(7);
+            return DepthRead::Beyond;
         }
-        Depth(n)
+        DepthRead::Within(Depth(n))
     }
 
     // The depth of a grant that no loan may stand on.
@@ -73,6 +77,12 @@ impl Depth {
     {
         self.0
     }
+}
+
+// What a number is as a depth.
+pub enum DepthRead {
+    Within(Depth),
+    Beyond,
 }
 
 // A command with the numbers that arrived.
@@ -114,43 +124,45 @@ pub enum Command {
     },
 }
 
+// What a command says to do.
+pub enum Verb {
+    Create,
+    Delete,
+    Allow,
+    Withdraw,
+    Lend,
+    Recall,
+}
+
+// What a command changes in lists, rows and the grants of a chain unit alike.
+pub enum Edit {
+    Create,
+    Delete,
+    Allow,
+    Withdraw,
+    Nothing,
+}
+
+// Any command's arguments.
+pub struct Arguments {
+    pub verb: Verb,
+    pub edit: Edit,
+    pub by: u32,
+    pub to: u32,
+    pub on: u32,
+    pub right: u32,
+    pub depth: u32,
+}
+
 // The same, each number within its range.
-pub enum Typed {
-    Create {
-        by: Item,
-        on: Item,
-    },
-    Delete {
-        by: Item,
-        on: Item,
-    },
-    Allow {
-        by: Item,
-        to: Item,
-        on: Item,
-        right: Right,
-        depth: Depth,
-    },
-    Withdraw {
-        by: Item,
-        to: Item,
-        on: Item,
-        right: Right,
-    },
-    Lend {
-        by: Item,
-        to: Item,
-        on: Item,
-        right: Right,
-        depth: Depth,
-    },
-    Recall {
-        by: Item,
-        to: Item,
-        on: Item,
-        right: Right,
-        depth: Depth,
-    },
+pub struct Typed {
+    pub verb: Verb,
+    pub edit: Edit,
+    pub by: Item,
+    pub to: Item,
+    pub on: Item,
+    pub right: Right,
+    pub depth: Depth,
 }
 
 pub enum Within {
@@ -219,7 +231,7 @@ pub enum Checked {
 
 impl Checked {
     pub fn said(yes: bool) -> Checked
-        ensures { λ r. ⌜ (checkedNumber r ≡ 0) × (checkedYes r ≡ yes) ⌝ }
+        ensures { λ r. ⌜ r ≡ checkedOf 0 yes ⌝ }
     {
         if yes { Checked::Yes } else { Checked::No }
     }
@@ -229,27 +241,6 @@ impl Checked {
 pub struct SubjectSet {
     pub answer: Answer,
     pub persons: u64,
-}
-
-// What the search for the best chain gives: its depth and number of persons; 0 and 0 where there is none.
-pub struct Found {
-    pub yes: bool,
-    pub depth: u32,
-    pub persons: u32,
-}
-
-impl Found {
-    // As the answer of a check; no depth is above the greatest.
-    pub fn checked(self) -> ChainChecked
-        ensures { λ r. ⌜ (chainNumber r ≡ 0) × (foundIn r ≡ cappedOf self) ⌝ }
-    {
-        if !self.yes {
-            return ChainChecked::No;
-        }
-        let depth = Depth::at_most(self.depth);
-        let persons = self.persons;
-        ChainChecked::Yes { depth, persons }
-    }
 }
 
 // What the check of a chain unit answers.
@@ -295,84 +286,114 @@ fn are_right_depth(r: u32, d: u32) -> bool
     r <= Right::MAX && d <= Depth::MAX
 }
 
-fn is_grant(by: u32, to: u32, on: u32, right: u32, depth: u32) -> bool
-    ensures { λ r. ⌜ r ≡ items by to && items to on && rightDepth right depth ⌝ }
-{
-    if !are_items(by, to) {
-        return false;
-    }
-    if !are_items(to, on) {
-        return false;
-    }
-    are_right_depth(right, depth)
-}
-
-// The typed form of each command with five arguments, only after the range check.
-fn typed_allow(by: u32, to: u32, on: u32, right: u32, depth: u32) -> Typed
-    ensures { λ r. ⌜ r ≡ typedOf (Allow by to on right depth) ⌝ }
-{
-    Typed::Allow {
-        by: Item(by),
-        to: Item(to),
-        on: Item(on),
-        right: Right(right),
-        depth: Depth(depth),
+impl Verb {
+    // Whether the table has number n for it, from 5 on.
+    fn knows(self, n: u32) -> bool
+        ensures { λ r. ⌜ r ≡ knows self n ⌝ }
+    {
+        match self {
+            Verb::Create => n == 6,
+            Verb::Delete => (n == 5) | (n == 7) | (n == 8),
+            Verb::Allow => (n == 5) | (n == 8),
+            Verb::Withdraw => (n == 5) | (n == 8),
+            Verb::Lend => (n == 5) | (n == 9) | (n == 10),
+            Verb::Recall => n == 5,
+        }
     }
 }
 
-fn typed_lend(by: u32, to: u32, on: u32, right: u32, depth: u32) -> Typed
-    ensures { λ r. ⌜ r ≡ typedOf (Lend by to on right depth) ⌝ }
-{
-    Typed::Lend {
-        by: Item(by),
-        to: Item(to),
-        on: Item(on),
-        right: Right(right),
-        depth: Depth(depth),
+impl Edit {
+    // Whether lists and rows have its commands.
+    pub fn is_flat(self) -> bool
+        ensures { λ r. ⌜ r ≡ flatEdit self ⌝ }
+    {
+        match self {
+            Edit::Create => true,
+            Edit::Delete => true,
+            Edit::Allow => true,
+            Edit::Withdraw => true,
+            Edit::Nothing => false,
+        }
     }
 }
 
-fn typed_recall(by: u32, to: u32, on: u32, right: u32, depth: u32) -> Typed
-    ensures { λ r. ⌜ r ≡ typedOf (Recall by to on right depth) ⌝ }
-{
-    Typed::Recall {
-        by: Item(by),
-        to: Item(to),
-        on: Item(on),
-        right: Right(right),
-        depth: Depth(depth),
+impl Arguments {
+    fn of(verb: Verb, edit: Edit, by: u32, to: u32, on: u32, right: u32, depth: u32) -> Arguments
+        ensures { λ r. ⌜ r ≡ arguments verb edit by to on right depth ⌝ }
+    {
+        Arguments {
+            verb,
+            edit,
+            by,
+            to,
+            on,
+            right,
+            depth,
+        }
+    }
+
+    fn fits(self) -> bool
+        ensures { λ r. ⌜ r ≡ fits self ⌝ }
+    {
+        are_items(self.by, self.to)
+            & are_items(self.to, self.on)
+            & are_right_depth(self.right, self.depth)
+    }
+
+    // Only after the range check.
+    fn typed(self) -> Typed
+        ensures { λ r. ⌜ r ≡ typedOf self ⌝ }
+    {
+        let verb = self.verb;
+        let edit = self.edit;
+        Typed {
+            verb,
+            edit,
+            by: Item(self.by),
+            to: Item(self.to),
+            on: Item(self.on),
+            right: Right(self.right),
+            depth: Depth(self.depth),
+        }
     }
 }
 
 impl Command {
-    fn fits(self) -> bool
-        ensures { λ r. ⌜ r ≡ fits self ⌝ }
+    // One without a to names on alone, one without a right or depth has 0 there.
+    pub fn arguments(self) -> Arguments
+        ensures { λ r. ⌜ r ≡ argumentsOf self ⌝ }
     {
         match self {
-            Command::Create { by, on } => are_items(by, on),
-            Command::Delete { by, on } => are_items(by, on),
+            Command::Create { by, on } => {
+                Arguments::of(Verb::Create, Edit::Create, by, on, on, 0, 0)
+            }
+            Command::Delete { by, on } => {
+                Arguments::of(Verb::Delete, Edit::Delete, by, on, on, 0, 0)
+            }
             Command::Allow {
                 by,
                 to,
                 on,
                 right,
                 depth,
-            } => is_grant(by, to, on, right, depth),
-            Command::Withdraw { by, to, on, right } => is_grant(by, to, on, right, 0),
+            } => Arguments::of(Verb::Allow, Edit::Allow, by, to, on, right, depth),
+            Command::Withdraw { by, to, on, right } => {
+                Arguments::of(Verb::Withdraw, Edit::Withdraw, by, to, on, right, 0)
+            }
             Command::Lend {
                 by,
                 to,
                 on,
                 right,
                 depth,
-            } => is_grant(by, to, on, right, depth),
+            } => Arguments::of(Verb::Lend, Edit::Nothing, by, to, on, right, depth),
             Command::Recall {
                 by,
                 to,
                 on,
                 right,
                 depth,
-            } => is_grant(by, to, on, right, depth),
+            } => Arguments::of(Verb::Recall, Edit::Nothing, by, to, on, right, depth),
         }
     }
 
@@ -380,223 +401,45 @@ impl Command {
     pub fn is_flat(self) -> bool
         ensures { λ r. ⌜ r ≡ flat self ⌝ }
     {
-        match self {
-            Command::Create { .. } => true,
-            Command::Delete { .. } => true,
-            Command::Allow { .. } => true,
-            Command::Withdraw { .. } => true,
-            Command::Lend { .. } => false,
-            Command::Recall { .. } => false,
-        }
-    }
-
-    // Only after the range check.
-    fn typed(self) -> Typed
-        requires { ⌜ fits self ≡ true ⌝ }
-        ensures { λ r. ⌜ r ≡ typedOf self ⌝ }
-    {
-        match self {
-            Command::Create { by, on } => Typed::Create {
-                by: Item(by),
-                on: Item(on),
-            },
-            Command::Delete { by, on } => Typed::Delete {
-                by: Item(by),
-                on: Item(on),
-            },
-            Command::Allow {
-                by,
-                to,
-                on,
-                right,
-                depth,
-            } => typed_allow(by, to, on, right, depth),
-            Command::Withdraw { by, to, on, right } => Typed::Withdraw {
-                by: Item(by),
-                to: Item(to),
-                on: Item(on),
-                right: Right(right),
-            },
-            Command::Lend {
-                by,
-                to,
-                on,
-                right,
-                depth,
-            } => typed_lend(by, to, on, right, depth),
-            Command::Recall {
-                by,
-                to,
-                on,
-                right,
-                depth,
-            } => typed_recall(by, to, on, right, depth),
-        }
+        let a = self.arguments();
+        let edit = a.edit;
+        edit.is_flat()
     }
 
     // Number 3.
     pub fn within(self) -> Within
-        ensures { λ r. ⌜ r ≡ withinOf self ⌝ }
+        ensures { λ r. ⌜ r ≡ withinOf (argumentsOf self) ⌝ }
     {
-        if !self.fits() {
+        let a = self.arguments();
+        if !a.fits() {
             return Within::Beyond;
         }
-        Within::Typed(self.typed())
+        Within::Typed(a.typed())
     }
 }
 
-impl Typed {
-    pub fn by(self) -> Item
-        ensures { λ r. ⌜ r .0 ≡ byOf (rawOf self) ⌝ }
-    {
-        match self {
-            Typed::Create { by, .. } => by,
-            Typed::Delete { by, .. } => by,
-            Typed::Allow { by, .. } => by,
-            Typed::Withdraw { by, .. } => by,
-            Typed::Lend { by, .. } => by,
-            Typed::Recall { by, .. } => by,
-        }
-    }
-
-    pub fn on(self) -> Item
-        ensures { λ r. ⌜ r .0 ≡ onOf (rawOf self) ⌝ }
-    {
-        match self {
-            Typed::Create { on, .. } => on,
-            Typed::Delete { on, .. } => on,
-            Typed::Allow { on, .. } => on,
-            Typed::Withdraw { on, .. } => on,
-            Typed::Lend { on, .. } => on,
-            Typed::Recall { on, .. } => on,
-        }
-    }
-
-    // A command without a to names on alone.
-    pub fn to(self) -> Item
-        ensures { λ r. ⌜ r .0 ≡ toOf (rawOf self) ⌝ }
-    {
-        match self {
-            Typed::Create { on, .. } => on,
-            Typed::Delete { on, .. } => on,
-            Typed::Allow { to, .. } => to,
-            Typed::Withdraw { to, .. } => to,
-            Typed::Lend { to, .. } => to,
-            Typed::Recall { to, .. } => to,
-        }
-    }
-
-    // A command without a right has right 0 here.
-    pub fn right(self) -> Right
-        ensures { λ r. ⌜ r .0 ≡ rightOf (rawOf self) ⌝ }
-    {
-        match self {
-            Typed::Create { .. } => Right(0),
-            Typed::Delete { .. } => Right(0),
-            Typed::Allow { right, .. } => right,
-            Typed::Withdraw { right, .. } => right,
-            Typed::Lend { right, .. } => right,
-            Typed::Recall { right, .. } => right,
-        }
-    }
-
-    // A command without a depth has depth 0 here.
-    pub fn depth(self) -> Depth
-        ensures { λ r. ⌜ r .0 ≡ depthOf (rawOf self) ⌝ }
-    {
-        match self {
-            Typed::Create { .. } => Depth(0),
-            Typed::Delete { .. } => Depth(0),
-            Typed::Allow { depth, .. } => depth,
-            Typed::Withdraw { .. } => Depth(0),
-            Typed::Lend { depth, .. } => depth,
-            Typed::Recall { depth, .. } => depth,
-        }
-    }
-}
-
-fn judge_delete(on: Item, f: Facts) -> Answer
-    ensures { λ r. ⌜ numberOf r ≡ deletes f (on .0) ⌝ }
+// A row of the table over the rows below it.
+fn row(applies: bool, answer: Answer, below: Answer) -> Answer
+    ensures { λ r. ⌜ numberOf r ≡ numberOf answer when applies else numberOf below ⌝ }
 {
-    if !f.on {
-        return Answer::NamedDead;
+    if applies {
+        return answer;
     }
-    if on.number() == 0 {
-        return Answer::RootItem;
-    }
-    if !f.edits {
-        return Answer::NoEdit;
-    }
-    Answer::Done
+    below
 }
 
-fn judge_edit(f: Facts) -> Answer
-    ensures { λ r. ⌜ numberOf r ≡ changes f ⌝ }
-{
-    if !f.on {
-        return Answer::NamedDead;
-    }
-    if !f.to {
-        return Answer::NamedDead;
-    }
-    if !f.edits {
-        return Answer::NoEdit;
-    }
-    Answer::Done
-}
-
-fn judge_lend(right: Right, f: Facts) -> Answer
-    ensures { λ r. ⌜ numberOf r ≡ lends f (right .0) ⌝ }
-{
-    if !f.on {
-        return Answer::NamedDead;
-    }
-    if !f.to {
-        return Answer::NamedDead;
-    }
-    if right.number() == 0 {
-        return Answer::EditRight;
-    }
-    if f.full {
-        return Answer::Full;
-    }
-    Answer::Done
-}
-
-fn judge_recall(f: Facts) -> Answer
-    ensures { λ r. ⌜ numberOf r ≡ recalls f ⌝ }
-{
-    if !f.on {
-        return Answer::NamedDead;
-    }
-    if !f.to {
-        return Answer::NamedDead;
-    }
-    Answer::Done
-}
-
-fn judge_create(f: Facts) -> Answer
-    ensures { λ r. ⌜ numberOf r ≡ creates f ⌝ }
-{
-    if f.on {
-        return Answer::AlreadyLive;
-    }
-    Answer::Done
-}
-
-// Numbers 4 to 10.
+// Numbers 4 to 10, from the last row of the table up: the lowest that applies.
 pub fn judge(t: Typed, f: Facts) -> Answer
-    ensures { λ r. ⌜ numberOf r ≡ table f (rawOf t) ⌝ }
+    ensures { λ r. ⌜ r ≡ answerFor (table f (rawOf t)) ⌝ }
 {
-    if !f.by {
-        return Answer::ByDead;
-    }
-    match t {
-        Typed::Create { .. } => judge_create(f),
-        Typed::Delete { on, .. } => judge_delete(on, f),
-        Typed::Allow { .. } => judge_edit(f),
-        Typed::Withdraw { .. } => judge_edit(f),
-        Typed::Lend { right, .. } => judge_lend(right, f),
-        Typed::Recall { .. } => judge_recall(f),
-    }
+    let verb = t.verb;
+    let on = t.on;
+    let right = t.right;
+    let n = row(verb.knows(10) & f.full, Answer::Full, Answer::Done);
+    let n = row(verb.knows(9) & (right.0 == 0), Answer::EditRight, n);
+    let n = row(verb.knows(8) & !f.edits, Answer::NoEdit, n);
+    let n = row(verb.knows(7) & (on.0 == 0), Answer::RootItem, n);
+    let n = row(verb.knows(6) & f.on, Answer::AlreadyLive, n);
+    let n = row(verb.knows(5) & !(f.on & f.to), Answer::NamedDead, n);
+    row(!f.by, Answer::ByDead, n)
 }

@@ -5,7 +5,7 @@ use mathlib.Core.Logic.{_↔_}
 use mathlib.Core.List.{List}
 use Prim.Native.Nat.{ℕ, _≤_}
 use native.Mathlib.Omega.{arith}
-use Rattle.model.specs.declared.Found.{Found}
+use Rattle.model.specs.Answers.{Found}
 use Rattle.model.specs.Chain.{Meets}
 use Rattle.model.proofs.Sets.{by-cases}
 

@@ -3,13 +3,24 @@ use mathlib.Core.Path.{_≡_}
 use mathlib.Core.Bool.{Bool, true, cond}
 use mathlib.Core.List.{List}
 use Prim.Native.Nat.{ℕ}
+use Rattle.model.specs.declared.Command.{Command}
+use Rattle.model.specs.Machine.{Machine, answerOf, stepOf}
 use Rattle.model.specs.Unit.{Layout, checkNumber, checkYes, checkLeft, freshNumber, freshOf, guarded}
+use Rattle.model.specs.Convert.{convertNumber, convertOf}
 use Rattle.model.specs.Subjects.{subjectsNumber, subjectsAnswer}
 use Rattle.model.specs.Images.{Images}
 use Rattle.model.specs.ChainUnit.{chainCheckNumber, chainFound, chainBuffer, chainLeft, chainFreshNumber, chainFreshOf, chainGuarded}
 
 abbrev pub flag : Bool → ℕ
 flag b = cond b 1 0
+
+-- number n and state x of a command, of any unit
+abbrev pub Gives : {S : Type 0} → Machine S → S → Command → ℕ → S → Type 0
+Gives M s c n x = (n ≡ answerOf M s c) × (x ≡ stepOf M s c)
+
+-- number n of a conversion, and what both buffers hold after
+abbrev pub Turns : Layout → Layout → List ℕ → List ℕ → ℕ → List ℕ → List ℕ → Type 0
+Turns L M s t n x y = (n ≡ convertNumber L M s t) × (x ≡ s) × (y ≡ convertOf L M s t)
 
 module _ (L : Layout) where
   -- number n and image x of making a fresh unit

@@ -2,8 +2,8 @@
 use crate::reply;
 ghost use Rattle.model.specs.declared.Command.the-variants.{Create, Delete, Allow, Withdraw, Lend, Recall};
 ghost use Rattle.model.specs.Images.{images};
-ghost use Rattle.model.specs.ChainUnit.{ChainRan};
-ghost use Rattle.rights_c.specs.Exports.{ChainFreshens, ChainAnswers, ChainInspects};
+ghost use Rattle.model.specs.ChainUnit.{chainUnit};
+ghost use Rattle.rights_c.specs.Exports.{Gives, ChainFreshens, ChainAnswers, ChainInspects};
 
 #[no_mangle]
 pub extern "C" fn rights_chains_fresh(image: &mut [u8], table: &mut [u32]) -> u32
@@ -15,7 +15,7 @@ pub extern "C" fn rights_chains_fresh(image: &mut [u8], table: &mut [u32]) -> u3
 
 #[no_mangle]
 pub extern "C" fn rights_chains_create(image: &mut [u8], table: &mut [u32], by: u32, on: u32) -> u32
-    ensures { λ r. ⌜ ChainRan (images (now (image .entry)) (now (table .entry))) (Create by on) r (images (now (image .exit)) (now (table .exit))) ⌝ }
+    ensures { λ r. ⌜ Gives chainUnit (images (now (image .entry)) (now (table .entry))) (Create by on) r (images (now (image .exit)) (now (table .exit))) ⌝ }
 {
     let a = chains::create(image, table, by, on);
     a.number()
@@ -23,7 +23,7 @@ pub extern "C" fn rights_chains_create(image: &mut [u8], table: &mut [u32], by: 
 
 #[no_mangle]
 pub extern "C" fn rights_chains_delete(image: &mut [u8], table: &mut [u32], by: u32, on: u32) -> u32
-    ensures { λ r. ⌜ ChainRan (images (now (image .entry)) (now (table .entry))) (Delete by on) r (images (now (image .exit)) (now (table .exit))) ⌝ }
+    ensures { λ r. ⌜ Gives chainUnit (images (now (image .entry)) (now (table .entry))) (Delete by on) r (images (now (image .exit)) (now (table .exit))) ⌝ }
 {
     let a = chains::delete(image, table, by, on);
     a.number()
@@ -39,7 +39,7 @@ pub extern "C" fn rights_chains_allow(
     right: u32,
     depth: u32,
 ) -> u32
-    ensures { λ r. ⌜ ChainRan (images (now (image .entry)) (now (table .entry))) (Allow by to on right depth) r (images (now (image .exit)) (now (table .exit))) ⌝ }
+    ensures { λ r. ⌜ Gives chainUnit (images (now (image .entry)) (now (table .entry))) (Allow by to on right depth) r (images (now (image .exit)) (now (table .exit))) ⌝ }
 {
     let a = chains::allow(image, table, by, to, on, right, depth);
     a.number()
@@ -54,7 +54,7 @@ pub extern "C" fn rights_chains_withdraw(
     on: u32,
     right: u32,
 ) -> u32
-    ensures { λ r. ⌜ ChainRan (images (now (image .entry)) (now (table .entry))) (Withdraw by to on right) r (images (now (image .exit)) (now (table .exit))) ⌝ }
+    ensures { λ r. ⌜ Gives chainUnit (images (now (image .entry)) (now (table .entry))) (Withdraw by to on right) r (images (now (image .exit)) (now (table .exit))) ⌝ }
 {
     let a = chains::withdraw(image, table, by, to, on, right);
     a.number()
@@ -70,7 +70,7 @@ pub extern "C" fn rights_chains_lend(
     right: u32,
     depth: u32,
 ) -> u32
-    ensures { λ r. ⌜ ChainRan (images (now (image .entry)) (now (table .entry))) (Lend by to on right depth) r (images (now (image .exit)) (now (table .exit))) ⌝ }
+    ensures { λ r. ⌜ Gives chainUnit (images (now (image .entry)) (now (table .entry))) (Lend by to on right depth) r (images (now (image .exit)) (now (table .exit))) ⌝ }
 {
     let a = chains::lend(image, table, by, to, on, right, depth);
     a.number()
@@ -86,7 +86,7 @@ pub extern "C" fn rights_chains_recall(
     right: u32,
     depth: u32,
 ) -> u32
-    ensures { λ r. ⌜ ChainRan (images (now (image .entry)) (now (table .entry))) (Recall by to on right depth) r (images (now (image .exit)) (now (table .exit))) ⌝ }
+    ensures { λ r. ⌜ Gives chainUnit (images (now (image .entry)) (now (table .entry))) (Recall by to on right depth) r (images (now (image .exit)) (now (table .exit))) ⌝ }
 {
     let a = chains::recall(image, table, by, to, on, right, depth);
     a.number()
@@ -106,7 +106,7 @@ pub extern "C" fn rights_chains_check(
     ensures { λ r. ⌜ ChainAnswers (images (now (image .entry)) (now (table .entry))) (now (chain .entry)) who on right r (now (depth .exit)) (now (persons .exit)) (now (chain .exit)) (images (now (image .exit)) (now (table .exit))) ⌝ }
 {
     let c = chains::check(image, table, who, on, right, chain);
-    let f = reply::found(c);
+    let f = reply::values(c);
     *depth = f.depth;
     *persons = f.persons;
     reply::chain_number(c)

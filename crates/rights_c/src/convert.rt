@@ -1,10 +1,10 @@
 // Lists into rows and back, for C.
 ghost use Rattle.model.specs.Unit.{lists, rows};
-ghost use Rattle.model.specs.Convert.{Converts};
+ghost use Rattle.rights_c.specs.Exports.{Turns};
 
 #[no_mangle]
 pub extern "C" fn rights_lists_to_rows(source: &[u64], target: &mut [u8]) -> u32
-    ensures { λ r. ⌜ Converts lists rows (now (source .entry)) (now (target .entry)) r (now (source .exit)) (now (target .exit)) ⌝ }
+    ensures { λ r. ⌜ Turns lists rows (now (source .entry)) (now (target .entry)) r (now (source .exit)) (now (target .exit)) ⌝ }
 {
     let a = rows::convert::to_rows(source, target);
     a.number()
@@ -12,7 +12,7 @@ pub extern "C" fn rights_lists_to_rows(source: &[u64], target: &mut [u8]) -> u32
 
 #[no_mangle]
 pub extern "C" fn rights_rows_to_lists(source: &[u8], target: &mut [u64]) -> u32
-    ensures { λ r. ⌜ Converts rows lists (now (source .entry)) (now (target .entry)) r (now (source .exit)) (now (target .exit)) ⌝ }
+    ensures { λ r. ⌜ Turns rows lists (now (source .entry)) (now (target .entry)) r (now (source .exit)) (now (target .exit)) ⌝ }
 {
     let a = rows::convert::to_lists(source, target);
     a.number()

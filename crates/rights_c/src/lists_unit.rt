@@ -1,8 +1,8 @@
 // The lists unit for C.
 use crate::reply;
 ghost use Rattle.model.specs.declared.Command.the-variants.{Create, Delete, Allow, Withdraw};
-ghost use Rattle.model.specs.Unit.{lists, Ran};
-ghost use Rattle.rights_c.specs.Exports.{Freshens, Answers, Subjects, Inspects};
+ghost use Rattle.model.specs.Unit.{lists, flatUnit};
+ghost use Rattle.rights_c.specs.Exports.{Gives, Freshens, Answers, Subjects, Inspects};
 
 #[no_mangle]
 pub extern "C" fn rights_lists_fresh(image: &mut [u64]) -> u32
@@ -14,7 +14,7 @@ pub extern "C" fn rights_lists_fresh(image: &mut [u64]) -> u32
 
 #[no_mangle]
 pub extern "C" fn rights_lists_create(image: &mut [u64], by: u32, on: u32) -> u32
-    ensures { λ r. ⌜ Ran lists (now (image .entry)) (Create by on) r (now (image .exit)) ⌝ }
+    ensures { λ r. ⌜ Gives (flatUnit lists) (now (image .entry)) (Create by on) r (now (image .exit)) ⌝ }
 {
     let a = lists::create(image, by, on);
     a.number()
@@ -22,7 +22,7 @@ pub extern "C" fn rights_lists_create(image: &mut [u64], by: u32, on: u32) -> u3
 
 #[no_mangle]
 pub extern "C" fn rights_lists_delete(image: &mut [u64], by: u32, on: u32) -> u32
-    ensures { λ r. ⌜ Ran lists (now (image .entry)) (Delete by on) r (now (image .exit)) ⌝ }
+    ensures { λ r. ⌜ Gives (flatUnit lists) (now (image .entry)) (Delete by on) r (now (image .exit)) ⌝ }
 {
     let a = lists::delete(image, by, on);
     a.number()
@@ -37,7 +37,7 @@ pub extern "C" fn rights_lists_allow(
     right: u32,
     depth: u32,
 ) -> u32
-    ensures { λ r. ⌜ Ran lists (now (image .entry)) (Allow by to on right depth) r (now (image .exit)) ⌝ }
+    ensures { λ r. ⌜ Gives (flatUnit lists) (now (image .entry)) (Allow by to on right depth) r (now (image .exit)) ⌝ }
 {
     let a = lists::allow(image, by, to, on, right, depth);
     a.number()
@@ -51,7 +51,7 @@ pub extern "C" fn rights_lists_withdraw(
     on: u32,
     right: u32,
 ) -> u32
-    ensures { λ r. ⌜ Ran lists (now (image .entry)) (Withdraw by to on right) r (now (image .exit)) ⌝ }
+    ensures { λ r. ⌜ Gives (flatUnit lists) (now (image .entry)) (Withdraw by to on right) r (now (image .exit)) ⌝ }
 {
     let a = lists::withdraw(image, by, to, on, right);
     a.number()

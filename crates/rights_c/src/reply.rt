@@ -1,9 +1,8 @@
 // The answer of a check as numbers.
 use model::ChainChecked;
 use model::Checked;
-use model::Found;
 ghost use mathlib.Core.Path.{_≡_};
-ghost use Rattle.model.specs.Answers.{checkedNumber, checkedYes, chainNumber, foundIn, nothing};
+ghost use Rattle.model.specs.Answers.{checkedNumber, checkedYes, chainNumber, foundIn};
 ghost use Rattle.rights_c.specs.Exports.{flag};
 
 pub fn checked_number(c: Checked) -> u32
@@ -37,28 +36,28 @@ pub fn chain_number(c: ChainChecked) -> u32
     }
 }
 
-// What is given for no and beside a refusal.
-fn nothing() -> Found
-    ensures { λ r. ⌜ r ≡ nothing ⌝ }
+// The depth and the number of persons of a yes; 0 and 0 for no and beside a refusal.
+pub struct Best {
+    pub depth: u32,
+    pub persons: u32,
+}
+
+fn nothing() -> Best
+    ensures { λ r. ⌜ (r .depth ≡ 0) × (r .persons ≡ 0) ⌝ }
 {
-    Found {
-        yes: false,
+    Best {
         depth: 0,
         persons: 0,
     }
 }
 
-pub fn found(c: ChainChecked) -> Found
-    ensures { λ r. ⌜ r ≡ foundIn c ⌝ }
+pub fn values(c: ChainChecked) -> Best
+    ensures { λ r. ⌜ (r .depth ≡ foundIn c .depth) × (r .persons ≡ foundIn c .persons) ⌝ }
 {
     match c {
         ChainChecked::Yes { depth, persons } => {
             let d = depth.number();
-            Found {
-                yes: true,
-                depth: d,
-                persons,
-            }
+            Best { depth: d, persons }
         }
         ChainChecked::No => nothing(),
         ChainChecked::Refused(_) => nothing(),

@@ -1,8 +1,8 @@
 // The rows unit for C.
 use crate::reply;
 ghost use Rattle.model.specs.declared.Command.the-variants.{Create, Delete, Allow, Withdraw};
-ghost use Rattle.model.specs.Unit.{rows, Ran};
-ghost use Rattle.rights_c.specs.Exports.{Freshens, Answers, Subjects, Inspects};
+ghost use Rattle.model.specs.Unit.{rows, flatUnit};
+ghost use Rattle.rights_c.specs.Exports.{Gives, Freshens, Answers, Subjects, Inspects};
 
 #[no_mangle]
 pub extern "C" fn rights_rows_fresh(image: &mut [u8]) -> u32
@@ -14,7 +14,7 @@ pub extern "C" fn rights_rows_fresh(image: &mut [u8]) -> u32
 
 #[no_mangle]
 pub extern "C" fn rights_rows_create(image: &mut [u8], by: u32, on: u32) -> u32
-    ensures { λ r. ⌜ Ran rows (now (image .entry)) (Create by on) r (now (image .exit)) ⌝ }
+    ensures { λ r. ⌜ Gives (flatUnit rows) (now (image .entry)) (Create by on) r (now (image .exit)) ⌝ }
 {
     let a = rows::create(image, by, on);
     a.number()
@@ -22,7 +22,7 @@ pub extern "C" fn rights_rows_create(image: &mut [u8], by: u32, on: u32) -> u32
 
 #[no_mangle]
 pub extern "C" fn rights_rows_delete(image: &mut [u8], by: u32, on: u32) -> u32
-    ensures { λ r. ⌜ Ran rows (now (image .entry)) (Delete by on) r (now (image .exit)) ⌝ }
+    ensures { λ r. ⌜ Gives (flatUnit rows) (now (image .entry)) (Delete by on) r (now (image .exit)) ⌝ }
 {
     let a = rows::delete(image, by, on);
     a.number()
@@ -37,7 +37,7 @@ pub extern "C" fn rights_rows_allow(
     right: u32,
     depth: u32,
 ) -> u32
-    ensures { λ r. ⌜ Ran rows (now (image .entry)) (Allow by to on right depth) r (now (image .exit)) ⌝ }
+    ensures { λ r. ⌜ Gives (flatUnit rows) (now (image .entry)) (Allow by to on right depth) r (now (image .exit)) ⌝ }
 {
     let a = rows::allow(image, by, to, on, right, depth);
     a.number()
@@ -51,7 +51,7 @@ pub extern "C" fn rights_rows_withdraw(
     on: u32,
     right: u32,
 ) -> u32
-    ensures { λ r. ⌜ Ran rows (now (image .entry)) (Withdraw by to on right) r (now (image .exit)) ⌝ }
+    ensures { λ r. ⌜ Gives (flatUnit rows) (now (image .entry)) (Withdraw by to on right) r (now (image .exit)) ⌝ }
 {
     let a = rows::withdraw(image, by, to, on, right);
     a.number()

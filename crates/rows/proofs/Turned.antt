@@ -5,7 +5,7 @@ use mathlib.Core.List.{List}
 use Prim.Native.Nat.{ℕ, _+_, _-_, _*_, _/_, _%_, _^_, _≤_, _<_}
 use native.Mathlib.Omega.{arith}
 use borrow.Author.Tests.{le-leb, leb-true, eq-eqb, eqb-true, ltb-true, ltb-false}
-use lib.ListN.{length, getD, set, length-set, replicate, length-replicate, getD-replicate, List·getD-eq-default}
+use lib.ListN.{length, getD, set, length-set}
 use lib.Seq.{getD-set-same, getD-set-other}
 use lib.Dec.{eqb, ltb, leb}
 use lib.Pow.{pow-mono, pow-add}
@@ -22,12 +22,6 @@ use Rattle.model.proofs.Scan.{orBelow, or-bit-below}
 use Rattle.model.proofs.Edits.{lists-flat, rows-flat, cell-bit, cells-set, cells-marked, at-marked}
 use Rattle.model.proofs.Convert.{convert-live, convert-bit, convert-length, convert-cells, convert-cell}
 use Rattle.model.proofs.Pending.{lacking, ahead, pending, placed, lacking-length, lacking-cells, open-block, close-block, put-place, end-blocks, at-put, begin-cells}
-
--- cells of 0
-pub zeros : (n i : ℕ) → getD {A = ℕ} (replicate n 0) i 0 ≡ 0
-zeros n i =
-    by-cases (ltb i n) (λ t. getD-replicate n i 0 0 (ltb-true i n t))
-    (λ t. List·getD-eq-default (replicate n 0) 0 (omega (arith, ltb-false i n t, length-replicate {A = ℕ} n 0)))
 
 none-below : (n : ℕ) (f : ℕ → Bool) (k : ℕ) → anyBelow n f ≡ false → k < n → f k ≡ false
 none-below n f k h l = by-cases (f k) (λ t. absurd (false≢true (sym h ∙ some-intro n f k l t))) (λ t. t)

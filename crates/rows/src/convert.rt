@@ -10,11 +10,10 @@ ghost use mathlib.Core.Path.{_≡_};
 ghost use mathlib.Core.Bool.{true, cond};
 ghost use Prim.Native.Nat.{ℕ, _+_, _*_, _/_, _%_, _≤_, _<_};
 ghost use lib.Count.{trailingZeros};
-ghost use lib.ListN.{length, getD, replicate};
-ghost use Rattle.model.specs.Answers.{numberOf};
+ghost use lib.ListN.{length, getD};
 ghost use Rattle.model.specs.Bits.{bit, withoutBit, ofBits};
 ghost use Rattle.model.specs.Cells.{at};
-ghost use Rattle.model.specs.Unit.{lists, rows};
+ghost use Rattle.model.specs.Unit.{lists, rows, listWords, rowBytes};
 ghost use Rattle.model.specs.Convert.{convert, Converts};
 ghost use Rattle.model.proofs.Scan.{orBelow};
 ghost use Rattle.model.proofs.Pending.{lacking, ahead};
@@ -42,7 +41,7 @@ fn digit(set: bool) -> u8
 
 // Byte k of the live set.
 fn live_byte(source: &[u64], k: usize) -> u8
-    requires { ⌜ (length (now source) ≡ 513) × (k < 8) ⌝ }
+    requires { ⌜ (length (now source) ≡ listWords) × (k < 8) ⌝ }
     ensures { λ r. ⌜ r ≡ getD (convert lists rows (now (source .entry))) k 0 ⌝ }
 {
     let mut bits: u8 = 0;
@@ -57,10 +56,10 @@ fn live_byte(source: &[u64], k: usize) -> u8
 
 // Rows of the live set alone, whatever the target held.
 fn start_rows(target: &mut [u8], source: &[u64])
-    requires { ⌜ (length (now source) ≡ 513) × (length (now target) ≡ 4104) ⌝ }
-    ensures { λ _. ⌜ now (target .exit) ≡ lacking 8 4104 (ahead (rows .item) 0) (convert lists rows (now (source .entry))) ⌝ }
+    requires { ⌜ (length (now source) ≡ listWords) × (length (now target) ≡ rowBytes) ⌝ }
+    ensures { λ _. ⌜ now (target .exit) ≡ lacking 8 rowBytes (ahead (rows .item) 0) (convert lists rows (now (source .entry))) ⌝ }
 {
-    bytes::clear_each(target, 0, 1, 4104);
+    bytes::clear_each(target, 0, 1, Rows::BYTES);
     let mut k: usize = 0;
     while k < 8 {
         target[k] = live_byte(source, k);
@@ -70,7 +69,7 @@ fn start_rows(target: &mut [u8], source: &[u64])
 
 // The rights of person p on an item: bit p of the item's eight lists, right 7 first.
 fn row_byte(source: &[u64], on: usize, p: u32) -> u8
-    requires { ⌜ (length (now source) ≡ 513) × (on < 64) × (p < 64) ⌝ }
+    requires { ⌜ (length (now source) ≡ listWords) × (on < 64) × (p < 64) ⌝ }
     ensures { λ r. ⌜ r ≡ getD (convert lists rows (now (source .entry))) (8 + 64 * p + on) 0 ⌝ }
 {
     let mut bits: u8 = 0;
@@ -85,7 +84,7 @@ fn row_byte(source: &[u64], on: usize, p: u32) -> u8
 
 // The persons with a right on an item.
 fn persons_on(source: &[u64], on: usize) -> u64
-    requires { ⌜ (length (now source) ≡ 513) × (on < 64) ⌝ }
+    requires { ⌜ (length (now source) ≡ listWords) × (on < 64) ⌝ }
     ensures { λ r. ⌜ r ≡ orBelow 8 (λ (i : ℕ). getD (now (source .entry)) (1 + 8 * on + i) 0) ⌝ }
 {
     let mut set: u64 = 0;
@@ -99,8 +98,8 @@ fn persons_on(source: &[u64], on: usize) -> u64
 
 // The bytes of one item, in the row of each person with a right on it.
 fn put_column(target: &mut [u8], source: &[u64], on: usize)
-    requires { ⌜ (length (now source) ≡ 513) × (on < 64) × (now target ≡ lacking 8 4104 (ahead (rows .item) on) (convert lists rows (now source))) ⌝ }
-    ensures { λ _. ⌜ now (target .exit) ≡ lacking 8 4104 (ahead (rows .item) (on + 1)) (convert lists rows (now (source .entry))) ⌝ }
+    requires { ⌜ (length (now source) ≡ listWords) × (on < 64) × (now target ≡ lacking 8 rowBytes (ahead (rows .item) on) (convert lists rows (now source))) ⌝ }
+    ensures { λ _. ⌜ now (target .exit) ≡ lacking 8 rowBytes (ahead (rows .item) (on + 1)) (convert lists rows (now (source .entry))) ⌝ }
 {
     let mut rest = persons_on(source, on);
     while rest != 0 {
@@ -111,7 +110,7 @@ fn put_column(target: &mut [u8], source: &[u64], on: usize)
 }
 
 fn fill_rows(target: &mut [u8], source: &[u64])
-    requires { ⌜ (length (now source) ≡ 513) × (length (now target) ≡ 4104) ⌝ }
+    requires { ⌜ (length (now source) ≡ listWords) × (length (now target) ≡ rowBytes) ⌝ }
     ensures { λ _. ⌜ now (target .exit) ≡ convert lists rows (now (source .entry)) ⌝ }
 {
     start_rows(target, source);
@@ -124,7 +123,7 @@ fn fill_rows(target: &mut [u8], source: &[u64])
 
 // Numbers 1 and 2; rows are written whole, whatever they held.
 pub fn to_rows(source: &[u64], target: &mut [u8]) -> Answer
-    ensures { λ r. ⌜ Converts lists rows (now (source .entry)) (now (target .entry)) (numberOf r) (now (source .exit)) (now (target .exit)) ⌝ }
+    ensures { λ r. ⌜ Converts lists rows (now (source .entry)) (now (target .entry)) r (now (source .exit)) (now (target .exit)) ⌝ }
 {
     if target.len() != Rows::BYTES {
         return Answer::WrongLength;
@@ -151,29 +150,19 @@ fn eight(source: &[u8], first: usize) -> u64
     bits
 }
 
-fn clear(target: &mut [u64])
-    ensures { λ _. ⌜ now (target .exit) ≡ replicate (length (now (target .entry))) 0 ⌝ }
-{
-    let mut i: usize = 0;
-    while i < target.len() {
-        target[i] = 0;
-        i += 1;
-    }
-}
-
 // Lists of the live set alone, whatever the target held.
 fn start_lists(target: &mut [u64], source: &[u8])
-    requires { ⌜ (length (now source) ≡ 4104) × (length (now target) ≡ 513) ⌝ }
-    ensures { λ _. ⌜ now (target .exit) ≡ lacking 64 513 (ahead (λ (k : ℕ). 8 * lists .person k + lists .item k / 8) 0) (convert rows lists (now (source .entry))) ⌝ }
+    requires { ⌜ (length (now source) ≡ rowBytes) × (length (now target) ≡ listWords) ⌝ }
+    ensures { λ _. ⌜ now (target .exit) ≡ lacking 64 listWords (ahead (λ (k : ℕ). 8 * lists .person k + lists .item k / 8) 0) (convert rows lists (now (source .entry))) ⌝ }
 {
-    clear(target);
+    lists::clear(target);
     target[0] = eight(source, 0);
 }
 
 // The rights of eight items in a row: bit 8 * i + r of the eight bytes is right r on item i of the eight.
 fn put_eight(target: &mut [u64], source: &[u8], t: usize)
-    requires { ⌜ (length (now source) ≡ 4104) × (t < 512) × (now target ≡ lacking 64 513 (ahead (λ (k : ℕ). 8 * lists .person k + lists .item k / 8) t) (convert rows lists (now source))) ⌝ }
-    ensures { λ _. ⌜ now (target .exit) ≡ lacking 64 513 (ahead (λ (k : ℕ). 8 * lists .person k + lists .item k / 8) (t + 1)) (convert rows lists (now (source .entry))) ⌝ }
+    requires { ⌜ (length (now source) ≡ rowBytes) × (t < 512) × (now target ≡ lacking 64 listWords (ahead (λ (k : ℕ). 8 * lists .person k + lists .item k / 8) t) (convert rows lists (now source))) ⌝ }
+    ensures { λ _. ⌜ now (target .exit) ≡ lacking 64 listWords (ahead (λ (k : ℕ). 8 * lists .person k + lists .item k / 8) (t + 1)) (convert rows lists (now (source .entry))) ⌝ }
 {
     let p = (t / 8) as u32;
     let first = 1 + 64 * (t % 8);
@@ -186,7 +175,7 @@ fn put_eight(target: &mut [u64], source: &[u8], t: usize)
 }
 
 fn fill_lists(target: &mut [u64], source: &[u8])
-    requires { ⌜ (length (now source) ≡ 4104) × (length (now target) ≡ 513) ⌝ }
+    requires { ⌜ (length (now source) ≡ rowBytes) × (length (now target) ≡ listWords) ⌝ }
     ensures { λ _. ⌜ now (target .exit) ≡ convert rows lists (now (source .entry)) ⌝ }
 {
     start_lists(target, source);
@@ -199,7 +188,7 @@ fn fill_lists(target: &mut [u64], source: &[u8])
 
 // Numbers 1 and 2; lists are written whole, whatever they held.
 pub fn to_lists(source: &[u8], target: &mut [u64]) -> Answer
-    ensures { λ r. ⌜ Converts rows lists (now (source .entry)) (now (target .entry)) (numberOf r) (now (source .exit)) (now (target .exit)) ⌝ }
+    ensures { λ r. ⌜ Converts rows lists (now (source .entry)) (now (target .entry)) r (now (source .exit)) (now (target .exit)) ⌝ }
 {
     if target.len() != Lists::WORDS {
         return Answer::WrongLength;

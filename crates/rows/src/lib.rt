@@ -3,6 +3,7 @@
 use model::Answer;
 use model::Checked;
 use model::Command;
+use model::Edit;
 use model::Facts;
 use model::Item;
 use model::Offered;
@@ -20,9 +21,11 @@ ghost use Prim.Native.Nat.{_+_, _*_, _<_};
 ghost use lib.ListN.{length, getD};
 ghost use Rattle.model.specs.declared.Command.the-variants.{Create, Delete, Allow, Withdraw};
 ghost use Rattle.model.specs.Commands.{Ranged, rawOf};
-ghost use Rattle.model.specs.Answers.{numberOf, checkedNumber, checkedYes};
-ghost use Rattle.model.specs.Unit.{rows, held, guarded, factsOf, after, Judged, Ran, Checks, Offers, freshImage, freshNumber, freshOf};
-ghost use Rattle.model.specs.Subjects.{subjectsNumber, subjectsAnswer};
+ghost use Rattle.model.specs.Answers.{numberOf};
+ghost use Rattle.model.specs.Journal.{grant};
+ghost use Rattle.model.specs.Machine.{Judged, Ran, Offers};
+ghost use Rattle.model.specs.Unit.{rows, rowBytes, held, guarded, factsOf, created, deleted, allowed, withdrawn, after, flatUnit, Inspects, Checks, freshImage, Freshens};
+ghost use Rattle.model.specs.Subjects.{Tells};
 
 pub mod convert;
 mod scan;
@@ -46,7 +49,7 @@ impl Rows {
 
 // Number 1 alone: whatever the buffer held is overwritten.
 pub fn fresh(image: &mut [u8]) -> Answer
-    ensures { λ r. ⌜ (numberOf r ≡ freshNumber rows (now (image .entry))) × (now (image .exit) ≡ freshOf rows (now (image .entry))) ⌝ }
+    ensures { λ r. ⌜ Freshens rows (now (image .entry)) r (now (image .exit)) ⌝ }
 {
     if image.len() != Rows::BYTES {
         return Answer::WrongLength;
@@ -74,14 +77,14 @@ fn order(image: &[u8]) -> Answer
 // Where the byte of a person and an item stands.
 fn place(who: Item, on: Item) -> usize
     requires { ⌜ (who .0 < 64) × (on .0 < 64) ⌝ }
-    ensures { λ r. ⌜ (r ≡ 8 + (64 * who .0 + on .0)) × (r < 4104) ⌝ }
+    ensures { λ r. ⌜ (r ≡ 8 + (64 * who .0 + on .0)) × (r < rowBytes) ⌝ }
 {
     8 + (64 * who.number() + on.number()) as usize
 }
 
 // Whether the row of the person has that right on the item.
 fn holds(image: &[u8], who: Item, on: Item, right: Right) -> bool
-    requires { ⌜ (length (now image) ≡ 4104) × (who .0 < 64) × (on .0 < 64) × (right .0 < 8) ⌝ }
+    requires { ⌜ (length (now image) ≡ rowBytes) × (who .0 < 64) × (on .0 < 64) × (right .0 < 8) ⌝ }
     ensures { λ r. ⌜ r ≡ held rows (now (image .entry)) (who .0) (on .0) (right .0) ⌝ }
 {
     let at = place(who, on);
@@ -90,12 +93,12 @@ fn holds(image: &[u8], who: Item, on: Item, right: Right) -> bool
 
 // What the table asks of this image.
 fn facts(image: &[u8], t: Typed) -> Facts
-    requires { ⌜ (length (now image) ≡ 4104) × Ranged (rawOf t) ⌝ }
+    requires { ⌜ (length (now image) ≡ rowBytes) × Ranged (rawOf t) ⌝ }
     ensures { λ r. ⌜ r ≡ factsOf rows (now (image .entry)) (rawOf t) ⌝ }
 {
-    let by = t.by();
-    let on = t.on();
-    let to = t.to();
+    let by = t.by;
+    let on = t.on;
+    let to = t.to;
     let edit = Right::edit();
     Facts {
         by: live::is_live(image, by),
@@ -108,8 +111,8 @@ fn facts(image: &[u8], t: Typed) -> Facts
 
 // The right into the person's row. A grant has no depth here: it was checked, and is dropped.
 fn put_grant(image: &mut [u8], to: Item, on: Item, right: Right)
-    requires { ⌜ (length (now image) ≡ 4104) × (to .0 < 64) × (on .0 < 64) × (right .0 < 8) ⌝ }
-    ensures { λ _. ⌜ now (image .exit) ≡ after rows (now (image .entry)) (Allow 0 (to .0) (on .0) (right .0) 0) ⌝ }
+    requires { ⌜ (length (now image) ≡ rowBytes) × (to .0 < 64) × (on .0 < 64) × (right .0 < 8) ⌝ }
+    ensures { λ _. ⌜ now (image .exit) ≡ allowed rows (now (image .entry)) (grant (to .0) (on .0) (right .0) 0) ⌝ }
 {
     let at = place(to, on);
     image[at] = byte::with(image[at], right.number());
@@ -117,8 +120,8 @@ fn put_grant(image: &mut [u8], to: Item, on: Item, right: Right)
 
 // The right out of the person's row.
 fn drop_grant(image: &mut [u8], to: Item, on: Item, right: Right)
-    requires { ⌜ (length (now image) ≡ 4104) × (to .0 < 64) × (on .0 < 64) × (right .0 < 8) ⌝ }
-    ensures { λ _. ⌜ now (image .exit) ≡ after rows (now (image .entry)) (Withdraw 0 (to .0) (on .0) (right .0)) ⌝ }
+    requires { ⌜ (length (now image) ≡ rowBytes) × (to .0 < 64) × (on .0 < 64) × (right .0 < 8) ⌝ }
+    ensures { λ _. ⌜ now (image .exit) ≡ withdrawn rows (now (image .entry)) (to .0) (on .0) (right .0) ⌝ }
 {
     let at = place(to, on);
     image[at] = byte::without(image[at], right.number());
@@ -126,8 +129,8 @@ fn drop_grant(image: &mut [u8], to: Item, on: Item, right: Right)
 
 // The item into the live set, then an edit grant on it to its creator.
 fn put_item(image: &mut [u8], by: Item, on: Item)
-    requires { ⌜ (length (now image) ≡ 4104) × (by .0 < 64) × (on .0 < 64) ⌝ }
-    ensures { λ _. ⌜ now (image .exit) ≡ after rows (now (image .entry)) (Create (by .0) (on .0)) ⌝ }
+    requires { ⌜ (length (now image) ≡ rowBytes) × (by .0 < 64) × (on .0 < 64) ⌝ }
+    ensures { λ _. ⌜ now (image .exit) ≡ created rows (now (image .entry)) (by .0) (on .0) ⌝ }
 {
     live::insert(image, on);
     put_grant(image, by, on, Right::edit());
@@ -135,8 +138,8 @@ fn put_item(image: &mut [u8], by: Item, on: Item)
 
 // The item out of the live set, its own row, then its byte in every row, so that a later item of this number inherits nothing.
 fn drop_item(image: &mut [u8], on: Item)
-    requires { ⌜ (length (now image) ≡ 4104) × (on .0 < 64) ⌝ }
-    ensures { λ _. ⌜ now (image .exit) ≡ after rows (now (image .entry)) (Delete 0 (on .0)) ⌝ }
+    requires { ⌜ (length (now image) ≡ rowBytes) × (on .0 < 64) ⌝ }
+    ensures { λ _. ⌜ now (image .exit) ≡ deleted rows (now (image .entry)) (on .0) ⌝ }
 {
     live::remove(image, on);
     let k = on.number() as usize;
@@ -144,25 +147,25 @@ fn drop_item(image: &mut [u8], on: Item)
     bytes::clear_each(image, 8 + k, 64, 64);
 }
 
-// What an accepted command does. Rows have no loans.
+// What an accepted command does to rows: its edit alone.
 fn apply(image: &mut [u8], t: Typed)
-    requires { ⌜ (length (now image) ≡ 4104) × Ranged (rawOf t) ⌝ }
+    requires { ⌜ (length (now image) ≡ rowBytes) × Ranged (rawOf t) ⌝ }
     ensures { λ _. ⌜ now (image .exit) ≡ after rows (now (image .entry)) (rawOf t) ⌝ }
 {
-    match t {
-        Typed::Create { by, on } => put_item(image, by, on),
-        Typed::Delete { on, .. } => drop_item(image, on),
-        Typed::Allow { to, on, right, .. } => put_grant(image, to, on, right),
-        Typed::Withdraw { to, on, right, .. } => drop_grant(image, to, on, right),
-        Typed::Lend { .. } => {}
-        Typed::Recall { .. } => {}
+    let edit = t.edit;
+    match edit {
+        Edit::Create => put_item(image, t.by, t.on),
+        Edit::Delete => drop_item(image, t.on),
+        Edit::Allow => put_grant(image, t.to, t.on, t.right),
+        Edit::Withdraw => drop_grant(image, t.to, t.on, t.right),
+        Edit::Nothing => {}
     }
 }
 
 // Numbers 4 to 10, and what follows.
 fn settle(image: &mut [u8], t: Typed) -> Answer
-    requires { ⌜ (length (now image) ≡ 4104) × Ranged (rawOf t) ⌝ }
-    ensures { λ r. ⌜ Judged rows (now (image .entry)) (rawOf t) (numberOf r) (now (image .exit)) ⌝ }
+    requires { ⌜ (length (now image) ≡ rowBytes) × Ranged (rawOf t) ⌝ }
+    ensures { λ r. ⌜ Judged (flatUnit rows) (now (image .entry)) (rawOf t) (numberOf r) (now (image .exit)) ⌝ }
 {
     let f = facts(image, t);
     let a = judge(t, f);
@@ -175,7 +178,7 @@ fn settle(image: &mut [u8], t: Typed) -> Answer
 
 // Any command, from the numbers that arrived. Private: a unit that lacks a command must not answer it.
 fn run(image: &mut [u8], c: Command) -> Answer
-    ensures { λ r. ⌜ Ran rows (now (image .entry)) c (numberOf r) (now (image .exit)) ⌝ }
+    ensures { λ r. ⌜ Ran (flatUnit rows) (now (image .entry)) c r (now (image .exit)) ⌝ }
 {
     let a = order(image);
     if a.number() != 0 {
@@ -189,19 +192,19 @@ fn run(image: &mut [u8], c: Command) -> Answer
 }
 
 pub fn create(image: &mut [u8], by: u32, on: u32) -> Answer
-    ensures { λ r. ⌜ Ran rows (now (image .entry)) (Create by on) (numberOf r) (now (image .exit)) ⌝ }
+    ensures { λ r. ⌜ Ran (flatUnit rows) (now (image .entry)) (Create by on) r (now (image .exit)) ⌝ }
 {
     run(image, Command::Create { by, on })
 }
 
 pub fn delete(image: &mut [u8], by: u32, on: u32) -> Answer
-    ensures { λ r. ⌜ Ran rows (now (image .entry)) (Delete by on) (numberOf r) (now (image .exit)) ⌝ }
+    ensures { λ r. ⌜ Ran (flatUnit rows) (now (image .entry)) (Delete by on) r (now (image .exit)) ⌝ }
 {
     run(image, Command::Delete { by, on })
 }
 
 pub fn allow(image: &mut [u8], by: u32, to: u32, on: u32, right: u32, depth: u32) -> Answer
-    ensures { λ r. ⌜ Ran rows (now (image .entry)) (Allow by to on right depth) (numberOf r) (now (image .exit)) ⌝ }
+    ensures { λ r. ⌜ Ran (flatUnit rows) (now (image .entry)) (Allow by to on right depth) r (now (image .exit)) ⌝ }
 {
     run(
         image,
@@ -216,14 +219,14 @@ pub fn allow(image: &mut [u8], by: u32, to: u32, on: u32, right: u32, depth: u32
 }
 
 pub fn withdraw(image: &mut [u8], by: u32, to: u32, on: u32, right: u32) -> Answer
-    ensures { λ r. ⌜ Ran rows (now (image .entry)) (Withdraw by to on right) (numberOf r) (now (image .exit)) ⌝ }
+    ensures { λ r. ⌜ Ran (flatUnit rows) (now (image .entry)) (Withdraw by to on right) r (now (image .exit)) ⌝ }
 {
     run(image, Command::Withdraw { by, to, on, right })
 }
 
 // For a caller that reads commands: any of them, passed over where rows lack it.
 pub fn offer(image: &mut [u8], c: Command) -> Offered
-    ensures { λ r. ⌜ Offers rows (now (image .entry)) c r (now (image .exit)) ⌝ }
+    ensures { λ r. ⌜ Offers (flatUnit rows) (now (image .entry)) c r (now (image .exit)) ⌝ }
 {
     if !c.is_flat() {
         return Offered::Passed;
@@ -233,7 +236,7 @@ pub fn offer(image: &mut [u8], c: Command) -> Offered
 
 // Whether the person has that right on the item.
 pub fn check(image: &[u8], who: u32, on: u32, right: u32) -> Checked
-    ensures { λ r. ⌜ Checks rows (now (image .entry)) who on right (checkedNumber r) (checkedYes r) (now (image .exit)) ⌝ }
+    ensures { λ r. ⌜ Checks rows (now (image .entry)) who on right r (now (image .exit)) ⌝ }
 {
     let a = order(image);
     if a.number() != 0 {
@@ -252,7 +255,7 @@ pub fn check(image: &[u8], who: u32, on: u32, right: u32) -> Checked
 
 // Every person with at least one grant (document 01's 'holder roll').
 pub fn subjects(image: &[u8]) -> SubjectSet
-    ensures { λ r. ⌜ (numberOf (r .answer) ≡ subjectsNumber rows (now (image .entry))) × (r .persons ≡ subjectsAnswer rows (now (image .entry))) × (now (image .exit) ≡ now (image .entry)) ⌝ }
+    ensures { λ r. ⌜ Tells rows (now (image .entry)) r (now (image .exit)) ⌝ }
 {
     let a = order(image);
     if a.number() != 0 {
@@ -267,7 +270,7 @@ pub fn subjects(image: &[u8]) -> SubjectSet
 
 // Numbers 1 and 2 alone, for a caller that reads the rows itself.
 pub fn inspect(image: &[u8]) -> Answer
-    ensures { λ r. ⌜ (numberOf r ≡ guarded rows (now (image .entry)) 0) × (now (image .exit) ≡ now (image .entry)) ⌝ }
+    ensures { λ r. ⌜ Inspects rows (now (image .entry)) r (now (image .exit)) ⌝ }
 {
     order(image)
 }

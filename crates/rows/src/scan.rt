@@ -8,7 +8,7 @@ ghost use Prim.Native.Nat.{_+_, _*_, _<_};
 ghost use lib.Dec.{eqb};
 ghost use lib.ListN.{length, getD};
 ghost use Rattle.model.specs.Sets.{allBelow};
-ghost use Rattle.model.specs.Unit.{rows, inOrder};
+ghost use Rattle.model.specs.Unit.{rows, rowBytes, inOrder};
 ghost use Rattle.model.specs.Subjects.{subjectsOf};
 ghost use Rattle.model.specs.Live.{masksOf};
 ghost use Rattle.model.proofs.Scan.{orBelow};
@@ -17,7 +17,7 @@ ghost use Rattle.model.proofs.Subjects.{isSubject};
 
 // Whether the rows of the eight persons from 8 * k on have rights on living items only.
 fn items_live(image: &[u8], k: usize, masks: &[u8; 64]) -> bool
-    requires { ⌜ (length (now image) ≡ 4104) × (k < 8) × (now masks ≡ masksOf (now image)) ⌝ }
+    requires { ⌜ (length (now image) ≡ rowBytes) × (k < 8) × (now masks ≡ masksOf (now image)) ⌝ }
     ensures { λ r. ⌜ r ≡ allBelow 8 (λ j. itemsOk rows (now (image .entry)) 512 (8 * k + j)) ⌝ }
 {
     let at = 8 + 512 * k;
@@ -26,7 +26,7 @@ fn items_live(image: &[u8], k: usize, masks: &[u8; 64]) -> bool
 }
 
 fn items_ok(image: &[u8], masks: &[u8; 64]) -> bool
-    requires { ⌜ (length (now image) ≡ 4104) × (now masks ≡ masksOf (now image)) ⌝ }
+    requires { ⌜ (length (now image) ≡ rowBytes) × (now masks ≡ masksOf (now image)) ⌝ }
     ensures { λ r. ⌜ r ≡ allBelow 64 (itemsOk rows (now (image .entry)) 512) ⌝ }
 {
     let mut k: usize = 0;
@@ -54,7 +54,7 @@ fn has_right(row: &[u8]) -> bool
 
 // Whether the person lives, or has no right.
 fn person_ok(image: &[u8], who: usize, masks: &[u8; 64]) -> bool
-    requires { ⌜ (length (now image) ≡ 4104) × (who < 64) × (now masks ≡ masksOf (now image)) ⌝ }
+    requires { ⌜ (length (now image) ≡ rowBytes) × (who < 64) × (now masks ≡ masksOf (now image)) ⌝ }
     ensures { λ r. ⌜ r ≡ personsOk rows (now (image .entry)) 512 who ⌝ }
 {
     if masks[who] == 0 {
@@ -66,7 +66,7 @@ fn person_ok(image: &[u8], who: usize, masks: &[u8; 64]) -> bool
 }
 
 fn persons_ok(image: &[u8], masks: &[u8; 64]) -> bool
-    requires { ⌜ (length (now image) ≡ 4104) × (now masks ≡ masksOf (now image)) ⌝ }
+    requires { ⌜ (length (now image) ≡ rowBytes) × (now masks ≡ masksOf (now image)) ⌝ }
     ensures { λ r. ⌜ r ≡ allBelow 64 (personsOk rows (now (image .entry)) 512) ⌝ }
 {
     let mut who: usize = 0;
@@ -81,7 +81,7 @@ fn persons_ok(image: &[u8], masks: &[u8; 64]) -> bool
 
 // Whether the rows name living items only, in two passes: items eight rows at a time, then the rows of dead persons.
 fn rows_ok(image: &[u8]) -> bool
-    requires { ⌜ length (now image) ≡ 4104 ⌝ }
+    requires { ⌜ length (now image) ≡ rowBytes ⌝ }
     ensures { λ r. ⌜ r ≡ allBelow 64 (blockOk rows (now (image .entry)) 512) ⌝ }
 {
     let masks = live::masks(image);
@@ -92,7 +92,7 @@ fn rows_ok(image: &[u8]) -> bool
 }
 
 pub(crate) fn in_order(image: &[u8]) -> bool
-    requires { ⌜ length (now image) ≡ 4104 ⌝ }
+    requires { ⌜ length (now image) ≡ rowBytes ⌝ }
     ensures { λ r. ⌜ r ≡ inOrder rows (now (image .entry)) ⌝ }
 {
     if !byte::has(image[0], 0) {
@@ -103,7 +103,7 @@ pub(crate) fn in_order(image: &[u8]) -> bool
 
 // Whether the person has a right.
 fn holds_any(image: &[u8], who: usize) -> bool
-    requires { ⌜ (length (now image) ≡ 4104) × (who < 64) ⌝ }
+    requires { ⌜ (length (now image) ≡ rowBytes) × (who < 64) ⌝ }
     ensures { λ r. ⌜ r ≡ isSubject rows (now (image .entry)) who ⌝ }
 {
     let at = 8 + 64 * who;
@@ -113,7 +113,7 @@ fn holds_any(image: &[u8], who: usize) -> bool
 
 // The persons with a right, bit p for person p.
 pub(crate) fn subjects(image: &[u8]) -> u64
-    requires { ⌜ length (now image) ≡ 4104 ⌝ }
+    requires { ⌜ length (now image) ≡ rowBytes ⌝ }
     ensures { λ r. ⌜ r ≡ subjectsOf rows (now (image .entry)) ⌝ }
 {
     let mut set: u64 = 0;

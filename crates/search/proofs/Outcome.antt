@@ -1,34 +1,35 @@
 -- From what the parts of the search say to what the search says.
 use mathlib.Core.Path.{_≡_, sym, ap, _∙_, subst}
-use mathlib.Core.List.{List, [], _++_}
+use mathlib.Core.List.{List, _++_}
 use Prim.Native.Nat.{ℕ, _+_, _-_, _*_, _≤_}
 use native.Mathlib.Omega.{arith}
-use native.Mathlib.Decide.{decLt}
-use mathlib.Core.Logic.{by-cases}
 use lib.Dec.{eqb}
-use lib.ListN.{getD, drop, take, replicate}
+use borrow.Author.Tests.{le-leb, ne-eqb}
+use Rattle.model.specs.Commands.{depthOf}
+use Rattle.model.specs.Answers.{foundSaid}
+use Rattle.model.specs.declared.Depth.{Depth}
+use Rattle.model.specs.declared.DepthRead.the-variants as depthRead
+use Rattle.model.specs.declared.ChainChecked.the-variants as chain
+use lib.ListN.{drop, take, replicate}
 use Rattle.model.specs.Sets.{keep, tabulate, most, firstAt}
-use Rattle.model.specs.Loans.{countOf, used}
-use Rattle.model.specs.Search.{keyOf, picked, grantRound, roundAt, column, traced, roundsOf, heightOf, lengthOf, foundOf, chainOf}
-use Rattle.model.specs.Answers.{nothing}
-use Rattle.model.proofs.Search.{bounded, yesFound, found-no, found-yes}
-use Rattle.model.proofs.Indexed.{getD-tabulate, first-most}
+use Rattle.model.specs.Loans.{keyOf, countOf, used}
+use Rattle.model.specs.Search.{picked, grantRound, roundAt, column, traced, roundsOf, heightOf, lengthOf, foundOf, chainOf}
+use Rattle.model.proofs.Search.{height-le, found-no, found-yes}
+use Rattle.search.specs.Entry.{entryFound}
 use Rattle.search.specs.Settled.{Settled}
 use Rattle.search.proofs.Trace.{traced-ext}
 
--- no entry is above 8, since a grant byte has no depth above 7
-height-le : (gs t : List ℕ) (key who : ℕ) → who ≤ 63 → heightOf gs t key who ≤ 8
-unfolding roundsOf heightOf
-height-le gs t key who h =
-    let first : List ℕ = grantRound gs (8 + 64 * key) in
-    let f : ℕ → ℕ = column (roundsOf gs t key) who in
-    by-cases (decLt 0 (most f 8))
-    (λ l. let m = first-most f 8 l in
-    let k : ℕ = firstAt f 8 in
-    let e : f k ≡ getD (roundAt first (picked t key) k) who 0 =
-    ap (λ (x : List ℕ). getD x who 0) (getD-tabulate 8 (roundAt first (picked t key)) k [] (m .0)) in
-    omega (arith, bounded gs (8 + 64 * key) (picked t key) k who (omega arith)))
-    (λ l. omega arith)
+-- an entry of at most 8 is read as a depth, and never found beyond the limit
+module _ (value at : ℕ) (le : value ≤ 8) (ne : value ≡ 0 → ⊥) where
+  within : depthOf (value - 1) ≡ depthRead.Within (record { 0 = value - 1 })
+  within = rw (le-leb (value - 1) 7 (omega arith))
+
+  pub said-within : (d : Depth) → depthOf (value - 1) ≡ depthRead.Within d → chain.Yes d (at + 1) ≡ foundSaid (entryFound value at)
+  unfolding foundSaid
+  said-within d e = let q : d ≡ record { 0 = value - 1 } = cc within in rw (ne-eqb value 0 ne, q)
+
+  pub said-beyond : depthOf (value - 1) ≡ depthRead.Beyond → ⊥
+  said-beyond e = let z : _≡_ {A = ℕ} 0 1 = cc within in omega arith
 
 -- what the code has before it answers
 pub record Searched (gs t : List ℕ) (key who : ℕ) (ls : List ℕ) (rounds : List (List ℕ)) (value at : ℕ) : Type 0 where
@@ -58,17 +59,18 @@ searched gs t key who n first ls rounds value at n-is h l f r v a =
     }
 
 module _ {gs t : List ℕ} {key who : ℕ} {ls : List ℕ} {rounds : List (List ℕ)} {value at : ℕ} (s : Searched gs t key who ls rounds value at) where
-  pub said-no : value ≡ 0 → (nothing ≡ foundOf gs t key who) × (replicate 8 255 ≡ chainOf gs t key who)
-  said-no e = let a = found-no gs t key who (sym (s .height-is) ∙ e) in (sym (a .0), sym (a .1))
+  pub found-is : entryFound value at ≡ foundOf gs t key who
+  unfolding foundOf
+  found-is = λ j. entryFound (s .height-is j) (s .length-is j)
 
-  pub said-yes : (value ≡ 0 → ⊥)
-      → (yesFound value at ≡ foundOf gs t key who) × (traced rounds ls at who ++ replicate (7 - at) 255 ≡ chainOf gs t key who)
+  pub chain-no : value ≡ 0 → replicate 8 255 ≡ chainOf gs t key who
+  chain-no e = sym (found-no gs t key who (sym (s .height-is) ∙ e) .1)
+
+  pub chain-yes : (value ≡ 0 → ⊥) → traced rounds ls at who ++ replicate (7 - at) 255 ≡ chainOf gs t key who
   unfolding lengthOf
-  said-yes ne =
-      let a = found-yes gs t key who (λ e. ne (s .height-is ∙ e)) in
+  chain-yes ne =
       let n = s .length-is in
-      let same = traced-ext rounds (roundsOf gs t key) ls at who (λ j h. s .rounds-are .same j (omega arith)) in (
-        (λ j. yesFound (s .height-is j) (n j)) ∙ sym (a .0),
-        ap (λ (l : List ℕ). l ++ replicate (7 - at) 255) same
-            ∙ (λ j. traced (roundsOf gs t key) (s .loans-are j) (n j) who ++ replicate (7 - n j) 255) ∙ sym (a .1),
-      )
+      let same = traced-ext rounds (roundsOf gs t key) ls at who (λ j h. s .rounds-are .same j (omega arith)) in
+      ap (λ (l : List ℕ). l ++ replicate (7 - at) 255) same
+      ∙ (λ j. traced (roundsOf gs t key) (s .loans-are j) (n j) who ++ replicate (7 - n j) 255)
+      ∙ sym (found-yes gs t key who (λ e. ne (s .height-is ∙ e)) .1)

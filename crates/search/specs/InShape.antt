@@ -3,12 +3,14 @@ use mathlib.Core.Path.{_≡_}
 use mathlib.Core.List.{List}
 use Prim.Native.Nat.{ℕ, _≤_}
 use lib.ListN.{length}
-use Rattle.model.specs.Loans.{countOf}
+use Rattle.model.specs.Commands.{mostLoans}
+use Rattle.model.specs.Unit.{grantCells}
+use Rattle.model.specs.Loans.{tableWords, countOf}
 
 pub record InShape (gs t : List ℕ) (who on right room : ℕ) : Type 0 where
-  pub grants : length gs ≡ 32776
-  pub loans : length t ≡ 1025
-  pub count : countOf t ≤ 1024
+  pub grants : length gs ≡ grantCells
+  pub loans : length t ≡ tableWords
+  pub count : countOf t ≤ mostLoans
   pub person : who ≤ 63
   pub item : on ≤ 63
   pub rights : right ≤ 7

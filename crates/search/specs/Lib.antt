@@ -1,3 +1,4 @@
+pub mod Entry
 pub mod InShape
 pub mod Picked
 pub mod Settled

@@ -5,7 +5,7 @@ use Prim.Native.Nat.{ℕ, _≤_}
 use lib.Dec.{eqb}
 use lib.ListN.{length, take}
 use Rattle.model.specs.Sets.{keep}
-use Rattle.model.specs.Search.{keyOf}
+use Rattle.model.specs.Loans.{keyOf}
 
 pub record Picked (loans : List ℕ) (key i m : ℕ) (out : List ℕ) : Type 0 where
   pub within : i ≤ length loans

@@ -1,9 +1,13 @@
 // The search for the best chain of a person on an item and right: the greatest last allowance of any, and a chain that has it.
 // The loans of the item and right are picked once. Round k has for each person 0, or 1 + the greatest allowance of the chains
 // to that person with exactly k loans; a loan costs one, so rounds 0 to 7 have all chains.
-use model::Found;
+use model::ChainChecked;
+use model::Depth;
+use model::DepthRead;
 use model::Item;
 use model::Right;
+use model::loan;
+use model::loan::Header;
 ghost use mathlib.Core.Path.{_≡_};
 ghost use mathlib.Core.Bool.{cond};
 ghost use mathlib.Core.List.{_++_};
@@ -11,56 +15,68 @@ ghost use Prim.Native.Nat.{ℕ, _+_, _-_, _*_, _≤_, _<_, max};
 ghost use lib.Dec.{eqb, ltb};
 ghost use lib.ListN.{length, getD, set, take, replicate};
 ghost use Rattle.model.specs.Sets.{keep, tabulate, most, firstAt};
-ghost use Rattle.model.specs.Loans.{countOf, lender, borrower};
-ghost use Rattle.model.specs.Search.{keyOf, gain, arrive, grantRound, nextRound, roundAt, column, lenderTo, traced, foundOf, chainOf};
+ghost use Rattle.model.specs.Commands.{mostLoans};
+ghost use Rattle.model.specs.Answers.{foundSaid};
+ghost use Rattle.model.specs.Unit.{grantCells};
+ghost use Rattle.model.specs.Loans.{keyOf, tableWords, countOf, lender, borrower};
+ghost use Rattle.model.specs.Search.{gain, arrive, grantRound, nextRound, roundAt, column, lenderTo, traced, foundOf, chainOf};
 ghost use Rattle.search.specs.InShape.{InShape};
+ghost use Rattle.search.specs.Entry.{entryFound};
 ghost use Rattle.search.specs.Picked.{Picked};
 ghost use Rattle.search.specs.Settled.{Settled};
 
+// How many loans a table holds.
+const MANY: usize = 1024;
+
+// How many have room in a small buffer, which is sooner made.
+const FEW: usize = 64;
+
+// How many are passed over at once.
+const BLOCK: usize = 16;
+
+// How many entries a round has, one for each person.
+const PERSONS: usize = 64;
+
+// How many rounds there are.
+const ROUNDS: usize = 8;
+
+// The last round.
+const LAST: usize = 7;
+
+// Where the grants of the first item and right begin, after the live set.
+const ROLL: usize = 8;
+
+// How many places a chain has.
+const PLACES: usize = 8;
+
+// What stands in a place that holds no person.
+const NOBODY: u8 = 255;
+
 // The number of loans in use.
-fn count_of(loans: &[u32]) -> usize
+fn in_use(loans: &[u32]) -> usize
     requires { ⌜ 0 < length (now loans) ⌝ }
     ensures { λ r. ⌜ r ≡ countOf (now (loans .entry)) ⌝ }
 {
-    loans[0] as usize
-}
-
-// An item and a right in one number, as a loan word has them.
-fn key_of(on: Item, right: Right) -> u32
-    requires { ⌜ (on .0 ≤ 63) × (right .0 ≤ 7) ⌝ }
-    ensures { λ r. ⌜ r ≡ 8 * on .0 + right .0 ⌝ }
-{
-    8 * on.number() + right.number()
-}
-
-// The persons of a loan word, lender·2^18 + on·2^12 + right·2^9 + borrower·2^3 + depth.
-fn lender_of(w: u32) -> usize
-    ensures { λ r. ⌜ r ≡ lender w ⌝ }
-{
-    (w / 262144 % 64) as usize
-}
-
-fn borrower_of(w: u32) -> usize
-    ensures { λ r. ⌜ r ≡ borrower w ⌝ }
-{
-    (w / 8 % 64) as usize
+    let header = Header::read(loans[0]);
+    header.count as usize
 }
 
 // 1 for a loan of the key, else 0.
 fn counted(w: u32, key: u32) -> u32
     ensures { λ r. ⌜ (r ≤ 1) × (r ≡ cond (eqb (keyOf w) key) 1 0) ⌝ }
 {
-    if w / 512 % 512 == key { 1 } else { 0 }
+    if loan::key_of(w) == key { 1 } else { 0 }
 }
 
 // 0 only where none of the 16 loans from place `at` on is of the key.
 fn seen(loans: &[u32], at: usize, key: u32) -> u32
     requires { ⌜ at + 16 ≤ length (now loans) ⌝ }
-    ensures { λ r. ⌜ (r ≡ 0 → keep (λ w. eqb (keyOf w) key) (take (at + 16) (now (loans .entry))) ≡ keep (λ w. eqb (keyOf w) key) (take at (now (loans .entry)))) ⌝ }
+    ensures { λ r. ⌜ (r ≡ 0 → keep (λ w. eqb (keyOf w) key) (take (at + 16) (now (loans .entry)))
+        ≡ keep (λ w. eqb (keyOf w) key) (take at (now (loans .entry)))) ⌝ }
 {
     let mut hits = 0u32;
     let mut j = 0;
-    while j < 16 {
+    while j < BLOCK {
         hits |= counted(loans[at + j], key);
         j += 1;
     }
@@ -70,7 +86,8 @@ fn seen(loans: &[u32], at: usize, key: u32) -> u32
 // Picks among the loans from place `from` to place `to`, after the `m` picked before. Each loan is written, and the next one
 // overwrites it where it does not count.
 fn pick_part(out: &mut [u32], loans: &[u32], m: usize, from: usize, to: usize, key: u32) -> usize
-    requires { ⌜ (length (now loans) ≤ length (now out)) × (from ≤ to) × (to ≤ length (now loans)) × Picked (now loans) key from m (now out) ⌝ }
+    requires { ⌜ (length (now loans) ≤ length (now out)) × (from ≤ to) × (to ≤ length (now loans))
+        × Picked (now loans) key from m (now out) ⌝ }
     ensures { λ r. ⌜ Picked (now (loans .entry)) key to r (now (out .exit)) ⌝ }
 {
     let mut m = m;
@@ -92,7 +109,7 @@ fn pick_block(out: &mut [u32], loans: &[u32], m: usize, at: usize, key: u32) -> 
     if seen(loans, at, key) == 0 {
         return m;
     }
-    let to = at + 16;
+    let to = at + BLOCK;
     pick_part(out, loans, m, at, to, key)
 }
 
@@ -104,21 +121,21 @@ fn pick(out: &mut [u32], loans: &[u32], key: u32) -> usize
     let end = loans.len();
     let mut m = 0;
     let mut i = 0;
-    while 16 <= end - i {
+    while BLOCK <= end - i {
         m = pick_block(out, loans, m, i, key);
-        i += 16;
+        i += BLOCK;
     }
     pick_part(out, loans, m, i, end, key)
 }
 
 // Round 0: the greatest depth + 1 of each of the 64 grant bytes from `base` on, or 0.
-fn grant_round(grants: &[u8], base: usize) -> [u8; 64]
+fn grant_round(grants: &[u8], base: usize) -> [u8; PERSONS]
     requires { ⌜ base + 64 ≤ length (now grants) ⌝ }
     ensures { λ r. ⌜ r ≡ grantRound (now (grants .entry)) base ⌝ }
 {
-    let mut round = [0u8; 64];
+    let mut round = [0u8; PERSONS];
     let mut p = 0;
-    while p < 64 {
+    while p < PERSONS {
         round[p] = (8 - u8::leading_zeros(grants[base + p])) as u8;
         p += 1;
     }
@@ -133,12 +150,12 @@ fn larger(a: u8, b: u8) -> u8
 }
 
 // The greatest entry of a round.
-fn greatest(round: &[u8; 64]) -> u8
+fn greatest(round: &[u8; PERSONS]) -> u8
     ensures { λ r. ⌜ r ≡ most (λ (p : ℕ). getD (now (round .entry)) p 0) 64 ⌝ }
 {
     let mut m = 0u8;
     let mut p = 0;
-    while p < 64 {
+    while p < PERSONS {
         m = larger(m, round[p]);
         p += 1;
     }
@@ -156,7 +173,8 @@ fn left_of(v: u8) -> u8
 fn gain_of(v: u8, w: u32) -> u8
     ensures { λ r. ⌜ r ≡ gain v w ⌝ }
 {
-    let limit = (w % 8) as u8 + 1;
+    let depth = loan::depth(w);
+    let limit = depth.number() as u8 + 1;
     if limit < v {
         return limit;
     }
@@ -164,11 +182,11 @@ fn gain_of(v: u8, w: u32) -> u8
 }
 
 // The same where the loan is to `q`, else 0.
-fn arrive_of(round: &[u8; 64], w: u32, q: usize) -> u8
-    ensures { λ r. ⌜ r ≡ arrive (getD (now (round .entry)) (lender w) 0) w q ⌝ }
+fn arrive_of(round: &[u8; PERSONS], w: u32, q: Item) -> u8
+    ensures { λ r. ⌜ r ≡ arrive (getD (now (round .entry)) (lender w) 0) w (q .0) ⌝ }
 {
-    if borrower_of(w) == q {
-        let p = lender_of(w);
+    if loan::borrower(w).number() == q.number() {
+        let p = loan::lender(w).number() as usize;
         gain_of(round[p], w)
     } else {
         0
@@ -176,26 +194,26 @@ fn arrive_of(round: &[u8; 64], w: u32, q: usize) -> u8
 }
 
 // Raises the borrower's entry to what the loan passes on where its lender's entry is `v`. An entry of 1 passes nothing on.
-fn raise(next: &mut [u8; 64], v: u8, w: u32)
+fn raise(next: &mut [u8; PERSONS], v: u8, w: u32)
     ensures { λ _. ⌜ now (next .exit) ≡ set (now (next .entry)) (borrower w) (max (getD (now (next .entry)) (borrower w) 0) (gain v w)) ⌝ }
 {
     if v <= 1 {
         return;
     }
-    let q = borrower_of(w);
+    let q = loan::borrower(w).number() as usize;
     let gained = gain_of(v, w);
     next[q] = larger(next[q], gained);
 }
 
 // The round with one loan more.
-fn next_round(ls: &[u32], round: &[u8; 64]) -> [u8; 64]
+fn next_round(ls: &[u32], round: &[u8; PERSONS]) -> [u8; PERSONS]
     ensures { λ r. ⌜ r ≡ nextRound (now (ls .entry)) (now (round .entry)) ⌝ }
 {
-    let mut next = [0u8; 64];
+    let mut next = [0u8; PERSONS];
     let mut i = 0;
     while i < ls.len() {
         let w = ls[i];
-        let p = lender_of(w);
+        let p = loan::lender(w).number() as usize;
         let v = round[p];
         raise(&mut next, v, w);
         i += 1;
@@ -205,20 +223,21 @@ fn next_round(ls: &[u32], round: &[u8; 64]) -> [u8; 64]
 
 // Rounds 0, 1 and so on, until no later one can have a greater entry of `who`: a loan costs one, so all entries after a round are
 // below its greatest. In place of the later ones stands round 0.
-fn rounds_of(ls: &[u32], first: [u8; 64], who: usize) -> [[u8; 64]; 8]
-    requires { ⌜ who < 64 ⌝ }
-    ensures { λ r. ⌜ Settled (tabulate 8 (roundAt first (now (ls .entry)))) r who ⌝ }
+fn rounds_of(ls: &[u32], first: [u8; PERSONS], who: Item) -> [[u8; PERSONS]; ROUNDS]
+    requires { ⌜ who .0 ≤ 63 ⌝ }
+    ensures { λ r. ⌜ Settled (tabulate 8 (roundAt first (now (ls .entry)))) r (who .0) ⌝ }
 {
-    let mut rounds = [first; 8];
-    let mut top = first[who];
+    let place = who.number() as usize;
+    let mut rounds = [first; ROUNDS];
+    let mut top = first[place];
     let mut k = 0;
-    while k < 7 {
+    while k < LAST {
         let round = rounds[k];
         if left_of(greatest(&round)) <= top {
             return rounds;
         }
         let next = next_round(ls, &round);
-        top = larger(top, next[who]);
+        top = larger(top, next[place]);
         k += 1;
         rounds[k] = next;
     }
@@ -243,62 +262,83 @@ fn better(e: Entry, v: u8, k: usize) -> Entry
 }
 
 // That of `who`, over rounds 0 to 7.
-fn best_of(rounds: &[[u8; 64]; 8], who: usize) -> Entry
-    requires { ⌜ who < 64 ⌝ }
-    ensures { λ r. ⌜ (r .value ≡ most (column (now (rounds .entry)) who) 8) × (r .at ≡ firstAt (column (now (rounds .entry)) who) 8) × (r .at < 8) ⌝ }
+fn best_of(rounds: &[[u8; PERSONS]; ROUNDS], who: Item) -> Entry
+    requires { ⌜ who .0 ≤ 63 ⌝ }
+    ensures { λ r. ⌜ (r .value ≡ most (column (now (rounds .entry)) (who .0)) 8)
+        × (r .at ≡ firstAt (column (now (rounds .entry)) (who .0)) 8) × (r .at < 8) ⌝ }
 {
+    let place = who.number() as usize;
     let mut e = Entry { value: 0, at: 0 };
     let mut k = 0;
-    while k < 8 {
-        e = better(e, rounds[k][who], k);
+    while k < ROUNDS {
+        e = better(e, rounds[k][place], k);
         k += 1;
     }
     e
 }
 
-// The lender of the last loan that passes `v` on to `q`.
-fn lender_to(ls: &[u32], round: &[u8; 64], q: usize, v: u8) -> usize
-    ensures { λ r. ⌜ r ≡ lenderTo (now (ls .entry)) (now (round .entry)) q v (length (now (ls .entry))) ⌝ }
+// The lender of the last loan that passes `v` on to `q`; where none does, item 0, as word 0 has it.
+fn lender_to(ls: &[u32], round: &[u8; PERSONS], q: Item, v: u8) -> Item
+    ensures { λ r. ⌜ r .0 ≡ lenderTo (now (ls .entry)) (now (round .entry)) (q .0) v (length (now (ls .entry))) ⌝ }
 {
     let mut i = ls.len();
     while 0 < i {
         i -= 1;
         let w = ls[i];
         if arrive_of(round, w, q) == v {
-            return lender_of(w);
+            return loan::lender(w);
         }
     }
-    0
+    Item::root()
 }
 
-// 255 in each of the 8 bytes.
+// No person in any place.
 fn clear(chain: &mut [u8])
     requires { ⌜ length (now chain) ≡ 8 ⌝ }
     ensures { λ _. ⌜ now (chain .exit) ≡ replicate 8 255 ⌝ }
 {
     let mut i = 0;
-    while i < 8 {
-        chain[i] = 255;
+    while i < PLACES {
+        chain[i] = NOBODY;
         i += 1;
     }
 }
 
 // The chain to `who` with `at` loans, read off the rounds from its end.
-fn write_chain(chain: &mut [u8], ls: &[u32], rounds: &[[u8; 64]; 8], who: usize, at: usize)
-    requires { ⌜ (length (now chain) ≡ 8) × (who < 64) × (at < 8) ⌝ }
-    ensures { λ _. ⌜ now (chain .exit) ≡ traced (now (rounds .entry)) (now (ls .entry)) at who ++ replicate (7 - at) 255 ⌝ }
+fn write_chain(chain: &mut [u8], ls: &[u32], rounds: &[[u8; PERSONS]; ROUNDS], who: Item, at: usize)
+    requires { ⌜ (length (now chain) ≡ 8) × (who .0 ≤ 63) × (at < 8) ⌝ }
+    ensures { λ _. ⌜ now (chain .exit) ≡ traced (now (rounds .entry)) (now (ls .entry)) at (who .0) ++ replicate (7 - at) 255 ⌝ }
 {
     clear(chain);
     let mut q = who;
     let mut k = at;
     while 0 < k {
-        chain[k] = q as u8;
-        let v = rounds[k][q];
+        let place = q.number() as usize;
+        chain[k] = place as u8;
+        let v = rounds[k][place];
         k -= 1;
         let round = rounds[k];
         q = lender_to(ls, &round, q, v);
     }
-    chain[0] = q as u8;
+    chain[0] = q.number() as u8;
+}
+
+// The answer to a person's greatest entry.
+fn said(e: Entry) -> ChainChecked
+    requires { ⌜ (e .value ≤ 8) × (e .at < 8) ⌝ }
+    ensures { λ r. ⌜ r ≡ foundSaid (entryFound (e .value) (e .at)) ⌝ }
+{
+    let value = e.value as u32;
+    if value == 0 {
+        return ChainChecked::No;
+    }
+    let persons = e.at as u32 + 1;
+    let depth = Depth::read(value - 1);
+    match depth {
+        DepthRead::Within(depth) => ChainChecked::Yes { depth, persons },
+        // No entry is above 8.
+        DepthRead::Beyond => ChainChecked::No,
+    }
 }
 
 // The answer to a check, and its chain, with room in `out` for the loans in use.
@@ -308,38 +348,26 @@ fn best_in(
     grants: &[u8],
     loans: &[u32],
     key: u32,
-    who: usize,
-) -> Found
-    requires { ⌜ (length (now loans) ≡ 1025) × (countOf (now loans) ≤ length (now out)) × (length (now out) ≤ 1024)
-        × (length (now grants) ≡ 32776) × (key ≤ 511) × (who ≤ 63) × (length (now chain) ≡ 8) ⌝ }
-    ensures { λ r. ⌜ (r ≡ foundOf (now (grants .entry)) (now (loans .entry)) key who)
-        × (now (chain .exit) ≡ chainOf (now (grants .entry)) (now (loans .entry)) key who) × (r .depth ≤ 7) ⌝ }
+    who: Item,
+) -> ChainChecked
+    requires { ⌜ (length (now loans) ≡ tableWords) × (countOf (now loans) ≤ length (now out)) × (length (now out) ≤ mostLoans)
+        × (length (now grants) ≡ grantCells) × (key ≤ 511) × (who .0 ≤ 63) × (length (now chain) ≡ 8) ⌝ }
+    ensures { λ r. ⌜ (r ≡ foundSaid (foundOf (now (grants .entry)) (now (loans .entry)) key (who .0)))
+        × (now (chain .exit) ≡ chainOf (now (grants .entry)) (now (loans .entry)) key (who .0)) ⌝ }
 {
-    let end = count_of(loans) + 1;
+    let end = in_use(loans) + 1;
     let m = pick(out, &loans[1..end], key);
     let ls = &out[..m];
-    let base = 8 + 64 * key as usize;
+    let base = ROLL + PERSONS * key as usize;
     let first = grant_round(grants, base);
     let rounds = rounds_of(ls, first, who);
     let e = best_of(&rounds, who);
-    let value = e.value;
-    let at = e.at;
-    if value == 0 {
+    if e.value == 0 {
         clear(chain);
-        return Found {
-            yes: false,
-            depth: 0,
-            persons: 0,
-        };
+    } else {
+        write_chain(chain, ls, &rounds, who, e.at);
     }
-    write_chain(chain, ls, &rounds, who, at);
-    let depth = value as u32 - 1;
-    let persons = at as u32 + 1;
-    Found {
-        yes: true,
-        depth,
-        persons,
-    }
+    said(e)
 }
 
 // The answer to a check, and its chain. A helper for the crate above, which has judged the images and read the arguments: so it
@@ -351,17 +379,16 @@ pub fn best(
     on: Item,
     right: Right,
     chain: &mut [u8],
-) -> Found
+) -> ChainChecked
     requires { ⌜ InShape (now grants) (now loans) (who .0) (on .0) (right .0) (length (now chain)) ⌝ }
-    ensures { λ r. ⌜ (r ≡ foundOf (now (grants .entry)) (now (loans .entry)) (8 * on .0 + right .0) (who .0))
-        × (now (chain .exit) ≡ chainOf (now (grants .entry)) (now (loans .entry)) (8 * on .0 + right .0) (who .0)) × (r .depth ≤ 7) ⌝ }
+    ensures { λ r. ⌜ (r ≡ foundSaid (foundOf (now (grants .entry)) (now (loans .entry)) (8 * on .0 + right .0) (who .0)))
+        × (now (chain .exit) ≡ chainOf (now (grants .entry)) (now (loans .entry)) (8 * on .0 + right .0) (who .0)) ⌝ }
 {
-    let key = key_of(on, right);
-    let person = who.number() as usize;
-    if count_of(loans) <= 64 {
-        let mut few = [0u32; 64];
-        return best_in(&mut few, chain, grants, loans, key, person);
+    let key = loan::key(on, right);
+    if in_use(loans) <= FEW {
+        let mut few = [0u32; FEW];
+        return best_in(&mut few, chain, grants, loans, key, who);
     }
-    let mut many = [0u32; 1024];
-    best_in(&mut many, chain, grants, loans, key, person)
+    let mut many = [0u32; MANY];
+    best_in(&mut many, chain, grants, loans, key, who)
 }

@@ -1,9 +1,9 @@
 use borrow.Author.Needs.{needs}
 use mathlib.Core.Path.{refl, sym, _∙_}
 use Rattle.model.proofs.ChainEnds.{chain-check-stops, chain-check-beyond, chain-check-says}
-use Rattle.chains.proofs.Judging.{in-shape, uncapped}
 use Rattle.model.specs.Images.{images}
 use Rattle.model.specs.declared.Answer.the-variants.{OutOfRange}
+use Rattle.chains.proofs.Judging.{in-shape}
 use Rattle.chains.proofs.check.Statement.{statement}
 use Rattle.chains.proofs.check.Tie as tie
 
@@ -33,9 +33,6 @@ best-requires c κs =
     in-shape (images (start .args .image .now) (start .args .table .now)) (start .args .chain .now) (start .args .who) (start .args .on) (start .args .right) _ _ _ (sym (c .before .before .before .before .read .ensures) ∙ c .before .before .q .given .1)
     (sym (c .before .before .before .before .before .before .before .order .ensures) ∙ sym (c .before .before .before .before .before .before .number .ensures) ∙ c .before .before .before .before .before .if1 .left)
 
-checked-requires : tie.Need-checked-requires
-checked-requires c κs = search needs
-
 returns-2 : tie.Need-returns-2
 returns-2 c =
     let start = c .before .before .before .before .before .before .before .before .before in
@@ -47,11 +44,10 @@ same-length c = search needs
 
 returns-3 : tie.Need-returns-3
 returns-3 c =
-    let start = c .before .before .before .before .before .before .before .before .before .before .before .before .before .before .before in
-    let e = sym (c .before .before .before .before .before .before .before .before .read .ensures) ∙ c .before .before .before .before .before .before .q .given .1 in
-    let f = c .before .before .before .best .ensures in
-    chain-check-says (images (start .args .image .now) (start .args .table .now)) (start .args .chain .now) (start .args .who) (start .args .on) (start .args .right) _ _ _ (c .checked .result) _ _ (sym (c .before .before .before .before .before .before .before .before .before .before .before .order .ensures) ∙ sym (c .before .before .before .before .before .before .before .before .before .before .number .ensures) ∙ c .before .before .before .before .before .before .before .before .before .if1 .left)
-    e (f .0) (f .1) (c .checked .ensures .0, c .checked .ensures .1 ∙ uncapped (images (start .args .image .now) (start .args .table .now)) (start .args .chain .now) (start .args .who) (start .args .on) (start .args .right) _ _ _ e _ (f .0))
+    let start = c .before .before .before .before .before .before .before .before .before .before .before .before .before .before in
+    let f = c .before .before .best .ensures in
+    chain-check-says (images (start .args .image .now) (start .args .table .now)) (start .args .chain .now) (start .args .who) (start .args .on) (start .args .right) _ _ _ _ _ (sym (c .before .before .before .before .before .before .before .before .before .before .order .ensures) ∙ sym (c .before .before .before .before .before .before .before .before .before .number .ensures) ∙ c .before .before .before .before .before .before .before .before .if1 .left)
+    (sym (c .before .before .before .before .before .before .before .read .ensures) ∙ c .before .before .before .before .before .q .given .1) (f .0) (f .1)
 
 pub check-spec : {M : Type 1} → statement M
 check-spec =
@@ -64,7 +60,6 @@ check-spec =
     enum-told
     enum-known-q
     best-requires
-    checked-requires
     returns-2
     same-length
     returns-3)

@@ -1,19 +1,10 @@
 use borrow.Author.Needs.{needs}
-use Rattle.chains.proofs.Judging.{facts-are}
 use Rattle.model.specs.Commands.{rawOf}
-use Rattle.model.specs.Images.{images}
 use Rattle.model.specs.Unit.{grantBytes}
+use Rattle.model.specs.Images.{images}
+use Rattle.chains.proofs.Judging.{facts-are}
 use Rattle.chains.proofs.facts.Statement.{statement}
 use Rattle.chains.proofs.facts.Tie as tie
-
-by-requires : tie.Need-by-requires
-by-requires c κs = search needs
-
-on-requires : tie.Need-on-requires
-on-requires c κs = search needs
-
-to-requires : tie.Need-to-requires
-to-requires c κs = search needs
 
 edit-requires : tie.Need-edit-requires
 edit-requires c κs = search needs
@@ -40,17 +31,13 @@ returns : tie.Need-returns
 unfolding grantBytes
 returns c =
     let start = c .before .before .before .before .before .before .before .before .before .before .before .before in
-    facts-are (images (start .args .image .now) (start .args .table .now)) (rawOf (start .args .t)) _ _ _ _ _ _ _ _ _ _ (c .before .before .before .before .before .before .before .before .before .by .ensures) (c .before .before .before .before .before .before .before .before .on .ensures)
-    (c .before .before .before .before .before .before .before .to .ensures) (c .before .before .before .before .before .before .edit .ensures) (c .before .before .before .before .before .code .ensures) (c .before .before .before .before .is-live .ensures)
-    (c .before .before .before .is-live2 .ensures) (c .before .before .is-live3 .ensures) (c .before .holds .ensures) (c .is-full .ensures)
+    facts-are (images (start .args .image .now) (start .args .table .now)) (rawOf (start .args .t)) _ _ _ _ _ _ _ (c .before .before .before .before .before .before .edit .ensures) (c .before .before .before .before .before .code .ensures)
+    (c .before .before .before .before .is-live .ensures) (c .before .before .before .is-live2 .ensures) (c .before .before .is-live3 .ensures) (c .before .holds .ensures) (c .is-full .ensures)
 
 pub facts-spec : {M : Type 1} → statement M
 facts-spec =
     tie.close
     (tie.spec
-    by-requires
-    on-requires
-    to-requires
     edit-requires
     code-requires
     is-live-requires

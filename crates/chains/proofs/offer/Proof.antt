@@ -1,6 +1,8 @@
 use borrow.Author.Needs.{needs}
 use mathlib.Core.Path.{sym, _∙_}
-use Rattle.model.proofs.ChainEnds.{chain-stops, chain-beyond, chain-judged}
+use Rattle.model.proofs.Ends.{ran-stops, ran-beyond, ran-judged}
+use Rattle.model.proofs.ChainEnds.{chain-guards}
+use Rattle.model.specs.ChainUnit.{chainUnit}
 use Rattle.chains.proofs.Judging.{ready}
 use Rattle.model.specs.Images.{images}
 use Rattle.chains.proofs.offer.Statement.{statement}
@@ -21,7 +23,7 @@ same-length-2 c = search needs
 returns : tie.Need-returns
 returns c =
     let start = c .before .before .before .before .before .before .before in
-    chain-stops (images (start .args .image .now) (start .args .table .now)) (start .args .c) _ (c .before .before .order .ensures) (λ z. c .if1 .taken (c .before .number .ensures ∙ z))
+    ran-stops chainUnit (images (start .args .image .now) (start .args .table .now)) chain-guards (start .args .c) _ (c .before .before .order .ensures) (λ z. c .if1 .taken (c .before .number .ensures ∙ z))
 
 within-requires : tie.Need-within-requires
 within-requires c κs = search needs
@@ -47,7 +49,7 @@ same-length-4 c = search needs
 returns-2 : tie.Need-returns-2
 returns-2 c =
     let start = c .before .before .before .before .before .before .before .before .before .before in
-    chain-beyond (images (start .args .image .now) (start .args .table .now)) (start .args .c) (sym (c .before .before .before .before .before .order .ensures) ∙ sym (c .before .before .before .before .number .ensures) ∙ c .before .before .before .if1 .left)
+    ran-beyond chainUnit (images (start .args .image .now) (start .args .table .now)) chain-guards (start .args .c) (sym (c .before .before .before .before .before .order .ensures) ∙ sym (c .before .before .before .before .number .ensures) ∙ c .before .before .before .if1 .left)
     (sym (c .before .before .within .ensures) ∙ c .enum-told .given .1)
 
 same-length-5 : tie.Need-same-length-5
@@ -59,7 +61,7 @@ same-length-6 c = search needs
 returns-3 : tie.Need-returns-3
 returns-3 c =
     let start = c .before .before .before .before .before .before .before .before .before .before .before .before .before .before .before .before .before .before in
-    chain-judged (images (start .args .image .now) (start .args .table .now)) (start .args .c) _ _ _ (sym (c .before .before .before .before .before .before .before .before .before .before .before .before .before .order .ensures) ∙ sym (c .before .before .before .before .before .before .before .before .before .before .before .before .number .ensures) ∙ c .before .before .before .before .before .before .before .before .before .before .before .if1 .left)
+    ran-judged chainUnit (images (start .args .image .now) (start .args .table .now)) chain-guards (start .args .c) _ _ _ (sym (c .before .before .before .before .before .before .before .before .before .before .before .before .before .order .ensures) ∙ sym (c .before .before .before .before .before .before .before .before .before .before .before .before .number .ensures) ∙ c .before .before .before .before .before .before .before .before .before .before .before .if1 .left)
     (sym (c .before .before .before .before .before .before .before .before .before .before .within .ensures) ∙ c .before .before .before .before .before .before .before .before .w .given .1) (c .before .before .before .before .settle .ensures)
 
 pub offer-spec : {M : Type 1} → statement M

@@ -1,5 +1,6 @@
 use borrow.Author.Needs.{needs}
-use Rattle.model.proofs.ChainEnds.{chain-judged-stops, chain-judged-goes}
+use Rattle.model.proofs.Ends.{judged-stops, judged-goes}
+use Rattle.model.specs.ChainUnit.{chainUnit}
 use Rattle.chains.proofs.Arms.{accepted}
 use Rattle.model.specs.Commands.{rawOf}
 use Rattle.model.specs.Images.{images}
@@ -24,7 +25,7 @@ same-length-2 c = search needs
 returns : tie.Need-returns
 returns c =
     let start = c .before .before .before .before .before .before .before .before in
-    chain-judged-stops (images (start .args .image .now) (start .args .table .now)) (rawOf (start .args .t)) _ _ _ (c .before .before .before .facts .ensures) (c .before .before .judge .ensures) (c .before .number .ensures) (c .if1 .taken)
+    judged-stops chainUnit (images (start .args .image .now) (start .args .table .now)) (rawOf (start .args .t)) _ _ _ (c .before .before .before .facts .ensures) (c .before .before .judge .ensures) (c .before .number .ensures) (c .if1 .taken)
 
 apply-requires : tie.Need-apply-requires
 apply-requires c κs =
@@ -40,7 +41,7 @@ same-length-4 c = search needs
 returns-2 : tie.Need-returns-2
 returns-2 c =
     let start = c .before .before .before .before .before .before .before .before .before .before .before .before .before .before .before in
-    chain-judged-goes (images (start .args .image .now) (start .args .table .now)) (rawOf (start .args .t)) _ _ _ _ (c .before .before .before .before .before .before .before .before .before .before .facts .ensures) (c .before .before .before .before .before .before .before .before .before .judge .ensures) (c .before .before .before .before .before .before .before .before .number .ensures) (c .before .before .before .before .before .before .before .if1 .left) (c .before .before .before .before .apply .ensures)
+    judged-goes chainUnit (images (start .args .image .now) (start .args .table .now)) (rawOf (start .args .t)) _ _ _ _ (c .before .before .before .before .before .before .before .before .before .before .facts .ensures) (c .before .before .before .before .before .before .before .before .before .judge .ensures) (c .before .before .before .before .before .before .before .before .number .ensures) (c .before .before .before .before .before .before .before .if1 .left) (c .before .before .before .before .apply .ensures)
 
 pub settle-spec : {M : Type 1} → statement M
 settle-spec =

@@ -1,13 +1,18 @@
 use borrow.Author.Needs.{needs}
 use native.Mathlib.Omega.{arith}
-use mathlib.Core.Path.{_≡_, refl, ap, _∙_}
+use borrow.Author.Tests.{eq-eqb, ne-eqb}
+use mathlib.Core.Path.{_≡_, refl, sym, ap, _∙_}
 use lib.ListN.{length, getD}
-use Rattle.model.specs.Unit.{grantBytes}
+use Rattle.model.specs.Unit.{grantBytes, grantCells}
 use Rattle.model.proofs.Unit.{bytes-laws}
 use Rattle.model.proofs.Edits.{fresh-written}
 use Rattle.model.proofs.Zeros.{zeroed-all}
 use Rattle.grants.proofs.fresh.Statement.{statement}
 use Rattle.grants.proofs.fresh.Tie as tie
+
+returns : tie.Need-returns
+unfolding grantBytes
+returns c = sym (rw (ne-eqb (length (c .before .before .args .image .now)) grantCells (c .if1 .taken)))
 
 fresh-requires : tie.Need-fresh-requires
 fresh-requires c κs = search needs
@@ -24,23 +29,26 @@ slice-write-image-2 c = search needs
 same-length : tie.Need-same-length
 same-length c = search needs
 
-returns : tie.Need-returns
+returns-2 : tie.Need-returns-2
 unfolding grantBytes
-returns c =
-    let q = c .before .before .before .before .before .before in
+returns-2 c =
+    let q = c .before .before .before .before .before .before .before in
+    let long = c .before .before .before .before .before .if1 .left in
     let k = c .before .before .clear-each in
-    let l : length (k .last .0) ≡ 32776 = k .kept .0 ∙ q .pre in
+    let l : length (k .last .0) ≡ grantCells = k .kept .0 ∙ long in
     fresh-written grantBytes bytes-laws 8 (λ z. omega arith) refl (k .last .0) _ _ l
-    (λ i. ap (λ s. getD s i 0) (k .ensures) ∙ zeroed-all (q .args .image .now) 32776 (q .pre) i)
+    (λ i. ap (λ s. getD s i 0) (k .ensures) ∙ zeroed-all (q .args .image .now) grantCells long i)
     (c .before .before .before .before .fresh .ensures .0) (c .before .before .before .before .fresh .ensures .1)
+    ∙ sym (rw (eq-eqb (length (q .args .image .now)) grantCells long))
 
 pub fresh-spec : {M : Type 1} → statement M
 fresh-spec =
     tie.close
     (tie.spec
+    returns
     fresh-requires
     clear-each-requires
     slice-write-image
     slice-write-image-2
     same-length
-    returns)
+    returns-2)

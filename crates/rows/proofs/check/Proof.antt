@@ -47,7 +47,7 @@ returns-3 : tie.Need-returns-3
 returns-3 c =
     let start = c .before .before .before .before .before .before .before .before .before .before in
     let fine = c .before .before .before .before .before .before in
-    check-says rows (start .args .image .now) (start .args .who) (start .args .on) (start .args .right) _ _ _ _ _ _ (sym (fine .before .before .order .ensures) ∙ sym (fine .before .number .ensures) ∙ fine .if1 .left)
+    check-says rows (start .args .image .now) (start .args .who) (start .args .on) (start .args .right) _ _ _ _ _ (sym (fine .before .before .order .ensures) ∙ sym (fine .before .number .ensures) ∙ fine .if1 .left)
     (sym (c .before .before .before .before .before .read .ensures) ∙ c .before .before .before .q .given .1) (c .before .holds .ensures) (c .said .ensures)
 
 pub check-spec : {M : Type 1} → statement M

@@ -1,19 +1,9 @@
-use Prim.Native.Nat.{_-_}
 use borrow.Author.Needs.{needs}
 use Rattle.model.specs.Unit.{rows}
 use Rattle.model.specs.Commands.{rawOf}
 use Rattle.model.proofs.Ends.{facts-are}
 use Rattle.rows.proofs.facts.Statement.{statement}
 use Rattle.rows.proofs.facts.Tie as tie
-
-by-requires : tie.Need-by-requires
-by-requires c κs = search needs
-
-on-requires : tie.Need-on-requires
-on-requires c κs = search needs
-
-to-requires : tie.Need-to-requires
-to-requires c κs = search needs
 
 edit-requires : tie.Need-edit-requires
 edit-requires c κs = search needs
@@ -34,15 +24,12 @@ returns : tie.Need-returns
 unfolding rows
 returns c =
     let start = c .before .before .before .before .before .before .before .before .before in
-    facts-are rows (start .args .image .now) (rawOf (start .args .t)) _ _ _ _ _ _ _ _ (c .before .before .before .before .before .before .before .by .ensures) (c .before .before .before .before .before .before .on .ensures) (c .before .before .before .before .before .to .ensures) (c .before .before .before .before .edit .ensures) (c .before .before .before .is-live .ensures) (c .before .before .is-live2 .ensures) (c .before .is-live3 .ensures) (c .holds .ensures)
+    facts-are rows (start .args .image .now) (rawOf (start .args .t)) _ _ _ _ _ (c .before .before .before .before .edit .ensures) (c .before .before .before .is-live .ensures) (c .before .before .is-live2 .ensures) (c .before .is-live3 .ensures) (c .holds .ensures)
 
 pub facts-spec : {M : Type 1} → statement M
 facts-spec =
     tie.close
     (tie.spec
-    by-requires
-    on-requires
-    to-requires
     edit-requires
     is-live-requires
     is-live-requires-2

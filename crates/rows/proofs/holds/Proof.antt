@@ -1,4 +1,3 @@
-use Prim.Native.Nat.{_-_}
 use borrow.Author.Needs.{needs}
 use Rattle.rows.proofs.Bytes.{rows-held}
 use Rattle.rows.proofs.holds.Statement.{statement}

@@ -1,5 +1,5 @@
 use borrow.Author.Needs.{needs}
-use Rattle.model.specs.Unit.{rows}
+use Rattle.model.specs.Unit.{rows, flatUnit}
 use Rattle.model.specs.Commands.{rawOf}
 use Rattle.model.proofs.Ends.{judged-stops, judged-goes}
 use Rattle.rows.proofs.settle.Statement.{statement}
@@ -20,7 +20,7 @@ same-length c = search needs
 returns : tie.Need-returns
 returns c =
     let start = c .before .before .before .before .before .before in
-    judged-stops rows (start .args .image .now) (rawOf (start .args .t)) _ _ _ (c .before .before .before .facts .ensures) (c .before .before .judge .ensures) (c .before .number .ensures) (c .if1 .taken)
+    judged-stops (flatUnit rows) (start .args .image .now) (rawOf (start .args .t)) _ _ _ (c .before .before .before .facts .ensures) (c .before .before .judge .ensures) (c .before .number .ensures) (c .if1 .taken)
 
 apply-requires : tie.Need-apply-requires
 apply-requires c κs = search needs
@@ -31,7 +31,7 @@ same-length-2 c = search needs
 returns-2 : tie.Need-returns-2
 returns-2 c =
     let start = c .before .before .before .before .before .before .before .before .before .before in
-    judged-goes rows (start .args .image .now) (rawOf (start .args .t)) _ _ _ _ (c .before .before .before .before .before .before .before .facts .ensures) (c .before .before .before .before .before .before .judge .ensures)
+    judged-goes (flatUnit rows) (start .args .image .now) (rawOf (start .args .t)) _ _ _ _ (c .before .before .before .before .before .before .before .facts .ensures) (c .before .before .before .before .before .before .judge .ensures)
     (c .before .before .before .before .before .number .ensures) (c .before .before .before .before .if1 .left) (c .before .before .apply .ensures)
 
 pub settle-spec : {M : Type 1} → statement M

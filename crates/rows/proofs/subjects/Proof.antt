@@ -1,5 +1,4 @@
-use mathlib.Core.Path.{refl, sym, _∙_}
-use Prim.Native.Nat.{_-_}
+use mathlib.Core.Path.{sym, _∙_}
 use borrow.Author.Needs.{needs}
 use Rattle.model.specs.Unit.{rows}
 use Rattle.model.proofs.Ends.{readable, subjects-stop, subjects-are}
@@ -13,18 +12,14 @@ number-requires : tie.Need-number-requires
 number-requires c κs = search needs
 
 returns : tie.Need-returns
-returns c =
-    let s = subjects-stop rows (c .before .before .before .before .args .image .now) _ (c .before .before .order .ensures) (λ z. c .if1 .taken (c .before .number .ensures ∙ z)) in
-    (s .0, s .1, refl)
+returns c = subjects-stop rows (c .before .before .before .before .args .image .now) _ (c .before .before .order .ensures) (λ z. c .if1 .taken (c .before .number .ensures ∙ z))
 
 subjects-requires : tie.Need-subjects-requires
 unfolding rows
 subjects-requires c κs = readable rows (c .before .before .before .before .args .image .now) (sym (c .before .before .order .ensures) ∙ sym (c .before .number .ensures) ∙ c .if1 .left)
 
 returns-2 : tie.Need-returns-2
-returns-2 c =
-    let s = subjects-are rows (c .before .before .before .before .before .args .image .now) _ _ (c .before .before .before .order .ensures) (sym (c .before .before .number .ensures) ∙ c .before .if1 .left) (c .subjects .ensures) in
-    (s .0, s .1, refl)
+returns-2 c = subjects-are rows (c .before .before .before .before .before .args .image .now) _ _ (c .before .before .before .order .ensures) (sym (c .before .before .number .ensures) ∙ c .before .if1 .left) (c .subjects .ensures)
 
 pub subjects-spec : {M : Type 1} → statement M
 subjects-spec =

@@ -1,20 +1,17 @@
-use Rattle.model.specs.Search.{foundOf, chainOf}
 use borrow.Author.Needs.{needs}
-use mathlib.Core.Path.{_∙_}
+use native.Mathlib.Omega.{arith}
+use mathlib.Core.Path.{_≡_, _∙_}
+use Prim.Native.Nat.{_+_, _*_}
+use Rattle.model.specs.Answers.{foundSaid}
+use Rattle.model.specs.Search.{foundOf, chainOf}
 use Rattle.search.proofs.best.Statement.{statement}
 use Rattle.search.proofs.best.Tie as tie
 
-key-of-requires : tie.Need-key-of-requires
-key-of-requires c κs = search needs
+key-requires : tie.Need-key-requires
+key-requires c κs = search needs
 
-number-requires : tie.Need-number-requires
-number-requires c κs = search needs
-
-cast-person : tie.Need-cast-person
-cast-person c = search needs
-
-count-of-requires : tie.Need-count-of-requires
-count-of-requires c κs = search needs
+in-use-requires : tie.Need-in-use-requires
+in-use-requires c κs = search needs
 
 slice-aggregate-best-in : tie.Need-slice-aggregate-best-in
 slice-aggregate-best-in c = search needs
@@ -27,13 +24,12 @@ same-length c = search needs
 
 returns : tie.Need-returns
 returns c =
-    let a = c .before .before .before .before .before .before .before .before .before .before .before .before .before .args in
-    let k = c .before .before .before .before .before .before .before .before .before .key-of .ensures in
-    let p = c .before .before .before .before .before .before .before .before .number .ensures in
+    let a = c .before .before .before .before .before .before .before .before .before .before .before .before .args in
+    let p = c .before .before .before .before .before .before .before .before .before .before .before .before .pre in
+    let k : c .before .before .before .before .before .before .before .before .key .result ≡ 8 * a .on .0 + a .right .0 = omega (arith, c .before .before .before .before .before .before .before .before .key .ensures, p .item, p .rights) in
     let e = c .before .before .before .best-in .ensures in (
-      e .0 ∙ (λ j. foundOf (a .grants .now) (a .loans .now) (k j) (p j)),
-      e .1 ∙ (λ j. chainOf (a .grants .now) (a .loans .now) (k j) (p j)),
-      e .2,
+      e .0 ∙ (λ j. foundSaid (foundOf (a .grants .now) (a .loans .now) (k j) (a .who .0))),
+      e .1 ∙ (λ j. chainOf (a .grants .now) (a .loans .now) (k j) (a .who .0)),
     )
 
 slice-aggregate-best-in-2 : tie.Need-slice-aggregate-best-in-2
@@ -47,23 +43,20 @@ same-length-2 c = search needs
 
 returns-2 : tie.Need-returns-2
 returns-2 c =
-    let a = c .before .before .before .before .before .before .before .before .before .before .before .before .before .args in
-    let k = c .before .before .before .before .before .before .before .before .before .key-of .ensures in
-    let p = c .before .before .before .before .before .before .before .before .number .ensures in
+    let a = c .before .before .before .before .before .before .before .before .before .before .before .before .args in
+    let p = c .before .before .before .before .before .before .before .before .before .before .before .before .pre in
+    let k : c .before .before .before .before .before .before .before .before .key .result ≡ 8 * a .on .0 + a .right .0 = omega (arith, c .before .before .before .before .before .before .before .before .key .ensures, p .item, p .rights) in
     let e = c .before .before .before .best-in2 .ensures in (
-      e .0 ∙ (λ j. foundOf (a .grants .now) (a .loans .now) (k j) (p j)),
-      e .1 ∙ (λ j. chainOf (a .grants .now) (a .loans .now) (k j) (p j)),
-      e .2,
+      e .0 ∙ (λ j. foundSaid (foundOf (a .grants .now) (a .loans .now) (k j) (a .who .0))),
+      e .1 ∙ (λ j. chainOf (a .grants .now) (a .loans .now) (k j) (a .who .0)),
     )
 
 pub best-spec : {M : Type 1} → statement M
 best-spec =
     tie.close
     (tie.spec
-    key-of-requires
-    number-requires
-    cast-person
-    count-of-requires
+    key-requires
+    in-use-requires
     slice-aggregate-best-in
     best-in-requires
     same-length

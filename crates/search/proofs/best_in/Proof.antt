@@ -1,9 +1,11 @@
-use Rattle.search.proofs.Outcome.{Searched, searched, said-no, said-yes}
-use lib.Seq.{length-take-le}
 use borrow.Author.Needs.{needs}
 use native.Mathlib.Omega.{arith}
-use mathlib.Core.Path.{sym, _∙_}
-use lib.ListN.{take}
+use mathlib.Core.Path.{sym, ap, _∙_}
+use mathlib.Core.Logic.{⊎-elim}
+use lib.ListN.{length, take}
+use lib.Seq.{length-take-le}
+use Rattle.model.specs.Answers.{foundSaid}
+use Rattle.search.proofs.Outcome.{Searched, searched, found-is, chain-no, chain-yes}
 use Rattle.search.proofs.best_in.Statement.{statement}
 use Rattle.search.proofs.best_in.Tie as tie
 
@@ -12,22 +14,22 @@ module _ (b : tie.After-best-of) where
   abbrev start : tie.Start
   start = b .before .before .before .before .before .before .before .before .before .before .before .before .before .before .before
 
-  said : let p = b .before .before .before .before .before .before .before .pick in
+  known : let p = b .before .before .before .before .before .before .before .pick in
       let e = b .best-of .result in
-      Searched (start .args .grants .now) (start .args .loans .now) (start .args .key) (start .args .who) (take (p .result) (p .last .0))
+      Searched (start .args .grants .now) (start .args .loans .now) (start .args .key) (start .args .who .0) (take (p .result) (p .last .0))
       (b .before .before .rounds-of .result) (e .value) (e .at)
-  said =
-      let n = b .before .before .before .before .before .before .before .before .before .before .count-of in
+  known =
+      let n = b .before .before .before .before .before .before .before .before .before .before .in-use in
       let l = b .before .before .before .before .before .before .before .pick in
       let f = b .before .before .before .grant-round in
       let r = b .before .before .rounds-of in
       let e = b .best-of in
-      searched (start .args .grants .now) (start .args .loans .now) (start .args .key) (start .args .who) (n .result) (f .result)
+      searched (start .args .grants .now) (start .args .loans .now) (start .args .key) (start .args .who .0) (n .result) (f .result)
       (take (l .result) (l .last .0)) (r .result) (e .result .value) (e .result .at) (n .ensures) (start .pre .5)
       (l .ensures .1) (f .ensures) (r .ensures) (e .ensures .0) (e .ensures .1)
 
-count-of-requires : tie.Need-count-of-requires
-count-of-requires c κs = search needs
+in-use-requires : tie.Need-in-use-requires
+in-use-requires c κs = search needs
 
 add-end : tie.Need-add-end
 add-end c = search needs
@@ -70,49 +72,30 @@ best-of-requires c κs = search needs
 clear-requires : tie.Need-clear-requires
 clear-requires c κs = search needs
 
+write-chain-requires : tie.Need-write-chain-requires
+write-chain-requires c κs = search needs
+
+said-requires : tie.Need-said-requires
+said-requires c κs = (known (c .before .before) .height-in, c .before .before .best-of .ensures .2)
+
 same-length : tie.Need-same-length
 same-length c = search needs
 
 same-length-2 : tie.Need-same-length-2
-same-length-2 c = search needs
+same-length-2 c = ⊎-elim (λ w. ap length (w .5) ∙ w .3 .given) (λ w. ap length (w .6) ∙ w .4 .given) (c .before .if1 .came)
 
 returns : tie.Need-returns
 returns c =
-    let s = said-no (said (c .before .before .before .before .before)) (omega arith) in
-    (s .0, c .before .before .clear .ensures ∙ s .1, omega arith)
-
-write-chain-requires : tie.Need-write-chain-requires
-write-chain-requires c κs = search needs
-
-cast-depth : tie.Need-cast-depth
-cast-depth c = search needs
-
-sub-depth : tie.Need-sub-depth
-sub-depth c = search needs
-
-cast-persons : tie.Need-cast-persons
-cast-persons c = search needs
-
-add-persons : tie.Need-add-persons
-add-persons c = search needs
-
-same-length-3 : tie.Need-same-length-3
-same-length-3 c = search needs
-
-same-length-4 : tie.Need-same-length-4
-same-length-4 c = search needs
-
-returns-2 : tie.Need-returns-2
-returns-2 c =
-    let s = said (c .before .before .before .before .before .before) in
-    let y = said-yes s (λ e. omega arith) in
-    (y .0, c .before .before .write-chain .ensures ∙ y .1, omega (arith, s .height-in))
+    let s = known (c .before .before .before) in (
+      c .said .ensures ∙ ap foundSaid (found-is s),
+      ⊎-elim (λ w. w .5 ∙ w .2 .ensures ∙ chain-no s (w .0 .taken)) (λ w. w .6 ∙ w .3 .ensures ∙ chain-yes s (w .0 .left)) (c .before .if1 .came),
+    )
 
 pub best-in-spec : {M : Type 1} → statement M
 best-in-spec =
     tie.close
     (tie.spec
-    count-of-requires
+    in-use-requires
     add-end
     sub-pick
     part-pick-start
@@ -126,14 +109,8 @@ best-in-spec =
     rounds-of-requires
     best-of-requires
     clear-requires
+    write-chain-requires
+    said-requires
     same-length
     same-length-2
-    returns
-    write-chain-requires
-    cast-depth
-    sub-depth
-    cast-persons
-    add-persons
-    same-length-3
-    same-length-4
-    returns-2)
+    returns)

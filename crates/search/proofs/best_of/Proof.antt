@@ -1,6 +1,6 @@
 use borrow.Author.Needs.{needs}
 use native.Mathlib.Omega.{arith}
-use mathlib.Core.Path.{_≡_, refl, ap, _∙_}
+use mathlib.Core.Path.{_≡_, refl, _∙_}
 use Prim.Native.Nat.{ℕ, _-_, _≤_}
 use Rattle.model.specs.Sets.{most, firstAt}
 use Rattle.model.specs.Search.{column}
@@ -11,11 +11,16 @@ use Rattle.search.proofs.best_of.Tie as tie
 
 -- the greatest entry of the first k rounds, and its place
 abbrev Inv-loop : tie.InvT-loop
-Inv-loop rounds who e₀ k₀ e k =
-    (k ≤ 8) × (e .value ≡ most (column rounds who) k) × (e .at ≡ firstAt (column rounds who) k)
+Inv-loop rounds place e₀ k₀ e k = (k ≤ 8) × (e .value ≡ most (column rounds place) k) × (e .at ≡ firstAt (column rounds place) k)
 
 abbrev μ-loop : tie.MeasureT-loop
-μ-loop rounds who e₀ k₀ e k = 8 - k
+μ-loop rounds place e₀ k₀ e k = 8 - k
+
+number-requires : tie.Need-number-requires Inv-loop μ-loop
+number-requires c κs = search needs
+
+cast-place : tie.Need-cast-place Inv-loop μ-loop
+cast-place c = search needs
 
 loop-holds : tie.Need-loop-holds Inv-loop μ-loop
 unfolding most firstAt
@@ -41,20 +46,19 @@ loop-less c = search needs
 
 loop-again : tie.Need-loop-again Inv-loop μ-loop
 loop-again c =
-    let a = c .before .before .before .before .args in
     let l = c .before .before .before .loop in
     let b = c .better in
-    let m = best-more (column (a .rounds .now) (a .who)) (l .k) (l .e .value) (l .e .at) (b .result .value) (b .result .at) (l .inv .1) (l .inv .2) (b .ensures .0) (b .ensures .1) in
+    let m = best-more (column (c .before .before .before .before .before .args .rounds .now) (c .before .before .before .before .number .result)) (l .k) (l .e .value) (l .e .at) (b .result .value) (b .result .at) (l .inv .1) (l .inv .2) (b .ensures .0) (b .ensures .1) in
     (search needs, m .0, m .1)
 
 returns : tie.Need-returns Inv-loop μ-loop
 returns c =
-    let a = c .before .before .args in
     let l = c .before .loop in
-    let f : ℕ → ℕ = column (a .rounds .now) (a .who) in
+    let f : ℕ → ℕ → ℕ = column (c .before .before .before .args .rounds .now) in
     let e : l .k ≡ 8 = omega arith in
-    let first : l .e .at ≡ firstAt f 8 = l .inv .2 ∙ ap (firstAt f) e in
-    (l .inv .1 ∙ ap (most f) e, first, omega (arith, first-le f 7))
+    let p = c .before .before .number .ensures in
+    let first : l .e .at ≡ firstAt (f (c .before .before .before .args .who .0)) 8 = l .inv .2 ∙ (λ j. firstAt (f (p j)) (e j)) in
+    (l .inv .1 ∙ (λ j. most (f (p j)) (e j)), first, omega (arith, first-le (f (c .before .before .before .args .who .0)) 7))
 
 pub best-of-spec : {M : Type 1} → statement M
 best-of-spec =
@@ -62,6 +66,8 @@ best-of-spec =
     (tie.spec
     Inv-loop
     μ-loop
+    number-requires
+    cast-place
     loop-holds
     mul-better
     index-1-better

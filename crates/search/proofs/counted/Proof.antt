@@ -1,14 +1,19 @@
-use borrow.Author.Tests.{eq-eqb, ne-eqb}
+use borrow.Author.Needs.{needs}
 use native.Mathlib.Omega.{arith}
-use Rattle.model.specs.Search.{keyOf}
+use mathlib.Core.Path.{sym, _∙_}
+use borrow.Author.Tests.{eq-eqb, ne-eqb}
+use Rattle.model.specs.Loans.{keyOf}
 use Rattle.search.proofs.counted.Statement.{statement}
 use Rattle.search.proofs.counted.Tie as tie
 
+key-of-requires : tie.Need-key-of-requires
+key-of-requires c κs = search needs
+
 returns : tie.Need-returns
-returns c = (omega arith, rw (eq-eqb (keyOf (c .before .args .w)) (c .before .args .key) (omega arith)))
+returns c = (omega arith, rw (eq-eqb (keyOf (c .before .before .args .w)) (c .before .before .args .key) (sym (c .before .key-of .ensures) ∙ c .if1 .taken)))
 
 returns-2 : tie.Need-returns-2
-returns-2 c = (omega arith, rw (ne-eqb (keyOf (c .before .args .w)) (c .before .args .key) (λ e. omega arith)))
+returns-2 c = (omega arith, rw (ne-eqb (keyOf (c .before .before .args .w)) (c .before .before .args .key) (λ e. c .if1 .left (c .before .key-of .ensures ∙ e))))
 
 pub counted-spec : {M : Type 1} → statement M
-counted-spec = tie.close (tie.spec returns returns-2)
+counted-spec = tie.close (tie.spec key-of-requires returns returns-2)

@@ -1,6 +1,6 @@
+use borrow.Author.Needs.{needs}
 use Rattle.model.specs.Search.{lenderTo}
 use Rattle.search.proofs.Trace.{lender-here, lender-else}
-use borrow.Author.Needs.{needs}
 use native.Mathlib.Omega.{arith}
 use mathlib.Core.Path.{_≡_, refl, sym, ap, _∙_}
 use Prim.Native.Nat.{_≤_}
@@ -10,7 +10,7 @@ use Rattle.search.proofs.lender_to.Tie as tie
 
 -- the lender wanted is among the first i loans
 abbrev Inv-loop : tie.InvT-loop
-Inv-loop ls round q v i₀ i = (i ≤ length ls) × (lenderTo ls round q v (length ls) ≡ lenderTo ls round q v i)
+Inv-loop ls round q v i₀ i = (i ≤ length ls) × (lenderTo ls round (q .0) v (length ls) ≡ lenderTo ls round (q .0) v i)
 
 abbrev μ-loop : tie.MeasureT-loop
 μ-loop ls round q v i₀ i = i
@@ -30,15 +30,15 @@ shared-slice-read-w c = search needs
 arrive-of-requires : tie.Need-arrive-of-requires Inv-loop μ-loop
 arrive-of-requires c κs = search needs
 
-lender-of-requires : tie.Need-lender-of-requires Inv-loop μ-loop
-lender-of-requires c κs = search needs
+lender-requires : tie.Need-lender-requires Inv-loop μ-loop
+lender-requires c κs = search needs
 
 returns : tie.Need-returns Inv-loop μ-loop
 returns c =
     let a = c .before .before .before .before .before .before .before .args in
     let l = c .before .before .before .before .before .loop in
     let f = c .before .before .arrive-of in
-    c .lender-of .ensures ∙ sym (l .inv .1 ∙ lender-here (a .ls .now) (a .round .now) (a .q) (a .v) (l .i) (f .result) (omega arith) (f .ensures) (omega arith))
+    c .lender .ensures ∙ sym (l .inv .1 ∙ lender-here (a .ls .now) (a .round .now) (a .q .0) (a .v) (l .i) (f .result) (omega arith) (f .ensures) (omega arith))
 
 loop-less : tie.Need-loop-less Inv-loop μ-loop
 loop-less c = search needs
@@ -48,15 +48,18 @@ loop-again c =
     let a = c .before .before .before .before .before .before .args in
     let l = c .before .before .before .before .loop in
     let f = c .before .arrive-of in
-    (search needs, l .inv .1 ∙ lender-else (a .ls .now) (a .round .now) (a .q) (a .v) (l .i) (f .result) (omega arith) (f .ensures) (λ e. omega arith))
+    (search needs, l .inv .1 ∙ lender-else (a .ls .now) (a .round .now) (a .q .0) (a .v) (l .i) (f .result) (omega arith) (f .ensures) (λ e. omega arith))
+
+root-requires : tie.Need-root-requires Inv-loop μ-loop
+root-requires c κs = search needs
 
 returns-2 : tie.Need-returns-2 Inv-loop μ-loop
 unfolding lenderTo
 returns-2 c =
-    let a = c .before .before .before .args in
-    let l = c .before .loop in
+    let a = c .before .before .before .before .args in
+    let l = c .before .before .loop in
     let e : l .i ≡ 0 = omega arith in
-    sym (l .inv .1 ∙ ap (lenderTo (a .ls .now) (a .round .now) (a .q) (a .v)) e)
+    c .root .ensures ∙ sym (l .inv .1 ∙ ap (lenderTo (a .ls .now) (a .round .now) (a .q .0) (a .v)) e)
 
 pub lender-to-spec : {M : Type 1} → statement M
 lender-to-spec =
@@ -69,8 +72,9 @@ lender-to-spec =
     mul-w
     shared-slice-read-w
     arrive-of-requires
-    lender-of-requires
+    lender-requires
     returns
     loop-less
     loop-again
+    root-requires
     returns-2)

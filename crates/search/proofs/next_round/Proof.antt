@@ -1,9 +1,9 @@
+use borrow.Author.Needs.{needs}
 use lib.ListN.{getD-replicate, length, getD, length-set}
 use Rattle.model.specs.Sets.{most}
 use Rattle.model.specs.Search.{arriving, nextRound}
 use Rattle.model.proofs.Indexed.{tabulate-ext}
 use Rattle.search.proofs.Rounds.{raise-more}
-use borrow.Author.Needs.{needs}
 use native.Mathlib.Omega.{arith}
 use mathlib.Core.Path.{_≡_, refl, ap, _∙_}
 use Prim.Native.Nat.{ℕ, _-_, _≤_, _<_}
@@ -12,8 +12,7 @@ use Rattle.search.proofs.next_round.Tie as tie
 
 -- each entry is the greatest of what the first i loans pass on
 abbrev Inv-loop : tie.InvT-loop
-Inv-loop ls round next₀ i₀ next i =
-    (i ≤ length ls) × (length next ≡ 64) × ((q : ℕ) → q < 64 → getD next q 0 ≡ most (arriving ls round q) i)
+Inv-loop ls round next₀ i₀ next i = (i ≤ length ls) × (length next ≡ 64) × ((q : ℕ) → q < 64 → getD next q 0 ≡ most (arriving ls round q) i)
 
 abbrev μ-loop : tie.MeasureT-loop
 μ-loop ls round next₀ i₀ next i = length ls - i
@@ -28,8 +27,14 @@ mul-w c = search needs
 shared-slice-read-w : tie.Need-shared-slice-read-w Inv-loop μ-loop
 shared-slice-read-w c = search needs
 
-lender-of-requires : tie.Need-lender-of-requires Inv-loop μ-loop
-lender-of-requires c κs = search needs
+lender-requires : tie.Need-lender-requires Inv-loop μ-loop
+lender-requires c κs = search needs
+
+number-requires : tie.Need-number-requires Inv-loop μ-loop
+number-requires c κs = search needs
+
+cast-p : tie.Need-cast-p Inv-loop μ-loop
+cast-p c = search needs
 
 element-copy-out-v : tie.Need-element-copy-out-v Inv-loop μ-loop
 element-copy-out-v c = search needs
@@ -45,13 +50,13 @@ loop-less c = search needs
 
 loop-again : tie.Need-loop-again Inv-loop μ-loop
 loop-again c =
-    let a = c .before .before .before .before .before .before .before .before .args in
-    let l = c .before .before .before .before .before .before .loop in
-    let p = c .before .before .before .lender-of in
+    let a = c .before .before .before .before .before .before .before .before .before .args in
+    let l = c .before .before .before .before .before .before .before .loop in
+    let p = c .before .before .before .number .ensures ∙ c .before .before .before .before .lender .ensures in
     let r = c .raise .ensures in (
       search needs,
       ap length r ∙ simp length-set (l .inv .1),
-      rw r (raise-more (a .ls .now) (a .round .now) (l .next) (l .i) (p .result) (p .ensures) (l .inv .1) (l .inv .2)),
+      rw r (raise-more (a .ls .now) (a .round .now) (l .next) (l .i) (c .before .before .before .number .result) p (l .inv .1) (l .inv .2)),
     )
 
 returns : tie.Need-returns Inv-loop μ-loop
@@ -71,7 +76,9 @@ next-round-spec =
     loop-holds
     mul-w
     shared-slice-read-w
-    lender-of-requires
+    lender-requires
+    number-requires
+    cast-p
     element-copy-out-v
     raise-requires
     add-i

@@ -1,8 +1,8 @@
+use borrow.Author.Needs.{needs}
 use Prim.Native.Nat.{max}
 use lib.Seq.{set-getD}
 use Rattle.model.specs.Loans.{borrower}
 use Rattle.model.specs.Search.{gain}
-use borrow.Author.Needs.{needs}
 use native.Mathlib.Omega.{arith}
 use mathlib.Core.Path.{_≡_, sym, ap, _∙_}
 use lib.ListN.{getD, set}
@@ -15,8 +15,14 @@ returns c =
     let e : max (getD (a .next .now) (borrower (a .w)) 0) (gain (a .v) (a .w)) ≡ getD (a .next .now) (borrower (a .w)) 0 = omega arith in
     sym (ap (set (a .next .now) (borrower (a .w))) e ∙ set-getD (a .next .now) (borrower (a .w)) 0)
 
-borrower-of-requires : tie.Need-borrower-of-requires
-borrower-of-requires c κs = search needs
+borrower-requires : tie.Need-borrower-requires
+borrower-requires c κs = search needs
+
+number-requires : tie.Need-number-requires
+number-requires c κs = search needs
+
+cast-q : tie.Need-cast-q
+cast-q c = search needs
 
 gain-of-requires : tie.Need-gain-of-requires
 gain-of-requires c κs = search needs
@@ -32,17 +38,19 @@ element-write-next c = search needs
 
 returns-2 : tie.Need-returns-2
 returns-2 c =
-    let a = c .before .before .before .before .before .args in
-    let q = c .before .before .before .borrower-of .ensures in
+    let a = c .before .before .before .before .before .before .args in
+    let q = c .before .before .before .number .ensures ∙ c .before .before .before .before .borrower .ensures in
     let g = c .before .before .gain-of .ensures in
-    ap (set (a .next .now) (c .before .before .before .borrower-of .result)) (c .larger .ensures) ∙ (λ j. set (a .next .now) (q j) (max (getD (a .next .now) (q j) 0) (g j)))
+    ap (set (a .next .now) (c .before .before .before .number .result)) (c .larger .ensures) ∙ (λ j. set (a .next .now) (q j) (max (getD (a .next .now) (q j) 0) (g j)))
 
 pub raise-spec : {M : Type 1} → statement M
 raise-spec =
     tie.close
     (tie.spec
     returns
-    borrower-of-requires
+    borrower-requires
+    number-requires
+    cast-q
     gain-of-requires
     element-copy-out-larger
     larger-requires

@@ -1,25 +1,32 @@
+use borrow.Author.Needs.{needs}
 use mathlib.Core.List.{List, []}
 use Prim.Native.Nat.{max, ℕ, _+_, _-_, _≤_, _<_}
 use lib.ListN.{getD-replicate, length, getD, length-set}
 use lib.Seq.{getD-set-other}
-use Rattle.model.specs.Sets.{most}
+use Rattle.model.specs.Sets.{most, tabulate}
 use Rattle.model.specs.Search.{nextRound, roundAt}
 use Rattle.search.proofs.Rounds.{fill-more, most-more, round-more}
 use Rattle.search.proofs.Settling.{settled-early, settled-last}
-use borrow.Author.Needs.{needs}
 use native.Mathlib.Omega.{arith}
-use mathlib.Core.Path.{_≡_, refl, sym, ap, _∙_}
+use mathlib.Core.Path.{_≡_, refl, sym, ap, subst, _∙_}
+use Rattle.search.specs.Settled.{Settled}
 use Rattle.search.proofs.rounds_of.Statement.{statement}
 use Rattle.search.proofs.rounds_of.Tie as tie
 
 -- rounds 0 to k are made, round 0 stands in place of the later ones, and top is the greatest entry of who so far
 abbrev Inv-loop : tie.InvT-loop
-Inv-loop ls who rounds₀ top₀ k₀ rounds top k =
+Inv-loop ls place rounds₀ top₀ k₀ rounds top k =
     (k ≤ 7) × (length rounds ≡ 8) × ((j : ℕ) → j < k + 1 → getD rounds j [] ≡ roundAt (getD rounds₀ 0 []) ls j)
-    × ((j : ℕ) → k < j → j < 8 → getD rounds j [] ≡ getD rounds₀ 0 []) × (top ≡ most (λ (j : ℕ). getD (roundAt (getD rounds₀ 0 []) ls j) who 0) (k + 1))
+    × ((j : ℕ) → k < j → j < 8 → getD rounds j [] ≡ getD rounds₀ 0 []) × (top ≡ most (λ (j : ℕ). getD (roundAt (getD rounds₀ 0 []) ls j) place 0) (k + 1))
 
 abbrev μ-loop : tie.MeasureT-loop
-μ-loop ls who rounds₀ top₀ k₀ rounds top k = 7 - k
+μ-loop ls place rounds₀ top₀ k₀ rounds top k = 7 - k
+
+number-requires : tie.Need-number-requires Inv-loop μ-loop
+number-requires c κs = search needs
+
+cast-place : tie.Need-cast-place Inv-loop μ-loop
+cast-place c = search needs
 
 array-read-top : tie.Need-array-read-top Inv-loop μ-loop
 array-read-top c = search needs
@@ -27,7 +34,7 @@ array-read-top c = search needs
 loop-holds : tie.Need-loop-holds Inv-loop μ-loop
 unfolding roundAt most
 loop-holds c =
-    let f : List ℕ = c .before .args .t2 in (
+    let f : List ℕ = c .before .before .args .t2 in (
       search needs,
       refl,
       λ j h. let e : j ≡ 0 = omega arith in rw e refl,
@@ -49,11 +56,12 @@ left-of-requires c κs = search needs
 
 returns : tie.Need-returns Inv-loop μ-loop
 returns c =
-    let a = c .before .before .before .before .before .before .before .before .args in
+    let a = c .before .before .before .before .before .before .before .before .before .args in
     let l = c .before .before .before .before .before .before .loop in
     let g = c .before .before .greatest .ensures ∙ (λ j. most (λ (p : ℕ). getD (l .inv .2 (l .k) (omega arith) j) p 0) 64) in
-    settled-early (a .t2) (a .ls .now) (l .k) (l .rounds) (a .who) (l .top) (omega arith) (omega arith) (l .inv .2) (l .inv .3) (l .inv .4)
-    (omega (arith, g, c .before .left-of .ensures, c .if1 .taken))
+    subst (λ (p : ℕ). Settled (tabulate 8 (roundAt (a .t2) (a .ls .now))) (l .rounds) p) (c .before .before .before .before .before .before .before .number .ensures)
+    (settled-early (a .t2) (a .ls .now) (l .k) (l .rounds) (c .before .before .before .before .before .before .before .number .result) (l .top) (omega arith) (omega arith) (l .inv .2) (l .inv .3) (l .inv .4)
+    (omega (arith, g, c .before .left-of .ensures, c .if1 .taken)))
 
 next-round-requires : tie.Need-next-round-requires Inv-loop μ-loop
 next-round-requires c κs = search needs
@@ -78,7 +86,7 @@ loop-less c = search needs
 
 loop-again : tie.Need-loop-again Inv-loop μ-loop
 loop-again c =
-    let a = c .before .before .before .before .before .before .before .before .before .before .before .args in
+    let a = c .before .before .before .before .before .before .before .before .before .before .before .before .args in
     let l = c .before .before .before .before .before .before .before .before .before .loop in
     let n = c .before .next-round in
     let e : n .result ≡ roundAt (a .t2) (a .ls .now) (l .k + 1) =
@@ -87,14 +95,15 @@ loop-again c =
       simp length-set (l .inv .1),
       fill-more (roundAt (a .t2) (a .ls .now)) [] (l .rounds) (l .k + 1) (n .result) (omega arith) e (l .inv .2),
       λ j h d. getD-set-other (l .rounds) (l .k + 1) j (n .result) [] (omega arith) ∙ l .inv .3 j (omega arith) d,
-      c .larger .ensures ∙ (λ j. max (l .inv .4 j) (getD (e j) (a .who) 0)) ∙ sym (most-more _ (l .k + 1)),
+      c .larger .ensures ∙ (λ j. max (l .inv .4 j) (getD (e j) (c .before .before .before .before .before .before .before .before .before .before .number .result) 0)) ∙ sym (most-more _ (l .k + 1)),
     )
 
 returns-2 : tie.Need-returns-2 Inv-loop μ-loop
 returns-2 c =
-    let a = c .before .before .before .args in
+    let a = c .before .before .before .before .args in
     let l = c .before .loop in
-    settled-last (a .t2) (a .ls .now) (l .k) (l .rounds) (a .who) (l .top) (omega arith) (omega arith) (l .inv .2) (l .inv .3) (l .inv .4) (omega arith)
+    subst (λ (p : ℕ). Settled (tabulate 8 (roundAt (a .t2) (a .ls .now))) (l .rounds) p) (c .before .before .number .ensures)
+    (settled-last (a .t2) (a .ls .now) (l .k) (l .rounds) (c .before .before .number .result) (l .top) (omega arith) (omega arith) (l .inv .2) (l .inv .3) (l .inv .4) (omega arith))
 
 pub rounds-of-spec : {M : Type 1} → statement M
 rounds-of-spec =
@@ -102,6 +111,8 @@ rounds-of-spec =
     (tie.spec
     Inv-loop
     μ-loop
+    number-requires
+    cast-place
     array-read-top
     loop-holds
     mul-round

@@ -1,21 +1,22 @@
-use mathlib.Core.List.{_++_}
 use borrow.Author.Needs.{needs}
+use mathlib.Core.List.{[], _++_}
 use native.Mathlib.Omega.{arith}
 use mathlib.Core.Path.{_≡_, sym, ap, _∙_}
 use Prim.Native.Nat.{suc, _-_, _<_}
-use lib.ListN.{length, drop, set, replicate, length-set}
-use Rattle.model.specs.Search.{traced}
+use lib.ListN.{length, getD, drop, set, replicate, length-set}
+use Rattle.model.specs.Search.{lenderTo, traced}
 use Rattle.search.proofs.Trace.{lender-lt, traced-step, traced-end, padding}
 use Rattle.search.proofs.write_chain.Statement.{statement}
 use Rattle.search.proofs.write_chain.Tie as tie
 
 -- the chain wanted is the one to q with k loans, and then the bytes after place k
 abbrev Inv-loop : tie.InvT-loop
-Inv-loop chain₀ ls rounds who at q₀ k₀ chain q k =
-    (k < 8) × (q < 64) × (length chain ≡ 8) × (traced rounds ls at who ++ replicate (7 - at) 255 ≡ traced rounds ls k q ++ drop (suc k) chain)
+Inv-loop chain₀ ls rounds at q₀ k₀ chain q k =
+    (k < 8) × (q .0 < 64) × (length chain ≡ 8)
+    × (traced rounds ls at (q₀ .0) ++ replicate (7 - at) 255 ≡ traced rounds ls k (q .0) ++ drop (suc k) chain)
 
 abbrev μ-loop : tie.MeasureT-loop
-μ-loop chain₀ ls rounds who at q₀ k₀ chain q k = k
+μ-loop chain₀ ls rounds at q₀ k₀ chain q k = k
 
 clear-requires : tie.Need-clear-requires Inv-loop μ-loop
 clear-requires c κs = search needs
@@ -27,8 +28,14 @@ loop-holds c =
       search needs,
       search needs,
       ap length e,
-      ap (_++_ (traced (a .rounds .now) (a .ls .now) (a .at) (a .who))) (sym (ap (drop (suc (a .at))) e ∙ padding (a .at) (omega arith))),
+      ap (_++_ (traced (a .rounds .now) (a .ls .now) (a .at) (a .who .0))) (sym (ap (drop (suc (a .at))) e ∙ padding (a .at) (omega arith))),
     )
+
+number-requires : tie.Need-number-requires Inv-loop μ-loop
+number-requires c κs = search needs
+
+cast-place : tie.Need-cast-place Inv-loop μ-loop
+cast-place c = search needs
 
 cast-chain : tie.Need-cast-chain Inv-loop μ-loop
 cast-chain c = search needs
@@ -62,15 +69,20 @@ loop-less c = search needs
 
 loop-again : tie.Need-loop-again Inv-loop μ-loop
 loop-again c =
-    let a = c .before .before .before .before .before .before .before .before .before .before .before .before .args in
-    let l = c .before .before .before .before .before .loop in
-    let e = c .lender-to .ensures in (
+    let a = c .before .before .before .before .before .before .before .before .before .before .before .before .before .args in
+    let l = c .before .before .before .before .before .before .loop in
+    let e = c .lender-to .ensures in
+    let p = sym (c .before .before .before .before .number .ensures) in
+    let f = (λ j. lenderTo (a .ls .now) (getD (a .rounds .now) (l .k - 1) []) (l .q .0) (getD (getD (a .rounds .now) (l .k) []) (p j) 0) (length (a .ls .now))) ∙ sym e in (
       search needs,
       rw e (lender-lt _ _ _ _ _),
       simp length-set (l .inv .2),
-      l .inv .3 ∙ traced-step (a .rounds .now) (a .ls .now) (l .chain) (l .k) (l .q) (omega arith) (omega arith)
-          ∙ (λ j. traced (a .rounds .now) (a .ls .now) (l .k - 1) (sym e j) ++ drop (suc (l .k - 1)) (set (l .chain) (l .k) (l .q))),
+      l .inv .3 ∙ traced-step (a .rounds .now) (a .ls .now) (l .chain) (l .k) (l .q .0) (omega arith) (omega arith)
+          ∙ (λ j. traced (a .rounds .now) (a .ls .now) (l .k - 1) (f j) ++ drop (suc (l .k - 1)) (set (l .chain) (l .k) (p j))),
     )
+
+number-requires-2 : tie.Need-number-requires-2 Inv-loop μ-loop
+number-requires-2 c κs = search needs
 
 cast-chain-2 : tie.Need-cast-chain-2 Inv-loop μ-loop
 cast-chain-2 c = search needs
@@ -83,10 +95,10 @@ same-length c = simp length-set (omega arith)
 
 returns : tie.Need-returns Inv-loop μ-loop
 returns c =
-    let a = c .before .before .before .before .before .before .before .before .args in
-    let l = c .before .loop in
+    let a = c .before .before .before .before .before .before .before .before .before .args in
+    let l = c .before .before .loop in
     let e : l .k ≡ 0 = omega arith in
-    sym (l .inv .3 ∙ (λ j. traced (a .rounds .now) (a .ls .now) (e j) (l .q) ++ drop (suc (e j)) (l .chain)) ∙ traced-end (a .rounds .now) (a .ls .now) (l .chain) (l .q) (omega arith))
+    sym (l .inv .3 ∙ (λ j. traced (a .rounds .now) (a .ls .now) (e j) (l .q .0) ++ drop (suc (e j)) (l .chain)) ∙ traced-end (a .rounds .now) (a .ls .now) (l .chain) (l .q .0) (omega arith) ∙ ap (set (l .chain) 0) (sym (c .number2 .ensures)))
 
 pub write-chain-spec : {M : Type 1} → statement M
 write-chain-spec =
@@ -96,6 +108,8 @@ write-chain-spec =
     μ-loop
     clear-requires
     loop-holds
+    number-requires
+    cast-place
     cast-chain
     slice-write-chain
     mul-v
@@ -107,6 +121,7 @@ write-chain-spec =
     lender-to-requires
     loop-less
     loop-again
+    number-requires-2
     cast-chain-2
     slice-write-chain-2
     same-length

@@ -1,40 +1,42 @@
 use borrow.Author.Needs.{needs}
 use native.Mathlib.Omega.{arith}
-use mathlib.Core.Path.{_≡_, sym, _∙_}
+use mathlib.Core.Path.{_≡_, sym, ap, _∙_}
 use Prim.Native.Nat.{_+_, _-_}
 use lib.ListN.{length, take, drop}
-use Rattle.model.specs.Loans.{countOf, rising, loansInOrder}
-use Rattle.model.specs.Sets.{all}
-use Rattle.loans.specs.Table.{unmasked, shaped, namesLive}
 use mathlib.Core.Bool.{_&&_}
 use lib.Dec.{eqb}
 use borrow.Author.Tests.{eq-eqb, ne-eqb, lt-leb, not-true, not-false}
+use Rattle.model.specs.Sets.{all}
+use Rattle.model.specs.Commands.{mostLoans}
+use Rattle.model.specs.Loans.{tableWords, countOf, rising, loansInOrder}
+use Rattle.model.specs.declared.loan.Header.{Header}
+use Rattle.loans.specs.Table.{unmasked, shaped, namesLive}
 use Rattle.loans.proofs.Parts.{order-parts}
 use Rattle.loans.proofs.order.in_order.Statement.{statement}
 use Rattle.loans.proofs.order.in_order.Tie as tie
 
 -- what the answer is, once the length and the count are seen to be right
 parts : (c : tie.After-in-use)
-    → let t = c .before .before .before .before .before .args .loans .now in
-    let live = unmasked (c .before .before .before .before .before .args .masks .now) in
+    → let t = c .before .before .before .before .before .before .args .loans .now in
+    let live = unmasked (c .before .before .before .before .before .before .args .masks .now) in
     let p = take (c .in-use .result + 1 - 1) (drop 1 t) in
-    eqb (length t) 1025 && loansInOrder live t
+    eqb (length t) tableWords && loansInOrder live t
     ≡ rising p && all shaped p && all (namesLive live) p && all (eqb 0) (take (length t - (c .in-use .result + 1)) (drop (c .in-use .result + 1) t))
 parts c =
-    let a = c .before .before .before .before .before .args in
-    order-parts (unmasked (a .masks .now)) (a .loans .now) (c .in-use .result) (c .before .before .before .if1 .left) (omega arith) (c .in-use .ensures)
+    let a = c .before .before .before .before .before .before .args in
+    order-parts (unmasked (a .masks .now)) (a .loans .now) (c .in-use .result) (c .before .before .before .before .if1 .left) (omega (arith, ap (λ (h : Header). h .count) (c .before .before .before .header-of .ensures))) (c .in-use .ensures)
 
 returns : tie.Need-returns
 returns c = rw (ne-eqb _ _ (c .if1 .taken))
 
-count-of-requires : tie.Need-count-of-requires
-count-of-requires c κs = search needs
+header-of-requires : tie.Need-header-of-requires
+header-of-requires c κs = search needs
 
 returns-2 : tie.Need-returns-2
 unfolding loansInOrder
 returns-2 c =
-    let t = c .before .before .before .before .args .loans .now in
-    rw (eq-eqb (length t) 1025 (c .before .before .if1 .left), lt-leb (countOf t) 1024 (omega arith))
+    let t = c .before .before .before .before .before .args .loans .now in
+    rw (eq-eqb (length t) tableWords (c .before .before .before .if1 .left), lt-leb (countOf t) mostLoans (omega (arith, ap (λ (h : Header). h .count) (c .before .before .header-of .ensures))))
 
 in-use-requires : tie.Need-in-use-requires
 in-use-requires c κs = search needs
@@ -91,8 +93,7 @@ are-live-requires : tie.Need-are-live-requires
 are-live-requires c κs = search needs
 
 returns-5 : tie.Need-returns-5
-returns-5 c =
-    sym (parts (c .before .before .before .before .before .before .before .before .before) ∙ rw (sym (c .before .before .before .before .before .before .before .rises .ensures) ∙ not-false _ (c .before .before .before .before .before .before .if3 .left), sym (c .before .before .before .before .are-shaped .ensures) ∙ not-false _ (c .before .before .before .if4 .left), sym (c .before .are-live .ensures) ∙ not-true _ (c .if5 .taken)))
+returns-5 c = sym (parts (c .before .before .before .before .before .before .before .before .before) ∙ rw (sym (c .before .before .before .before .before .before .before .rises .ensures) ∙ not-false _ (c .before .before .before .before .before .before .if3 .left), sym (c .before .before .before .before .are-shaped .ensures) ∙ not-false _ (c .before .before .before .if4 .left), sym (c .before .are-live .ensures) ∙ not-true _ (c .if5 .taken)))
 
 add-are-zero : tie.Need-add-are-zero
 add-are-zero c = search needs
@@ -113,16 +114,14 @@ are-zero-requires : tie.Need-are-zero-requires
 are-zero-requires c κs = search needs
 
 returns-6 : tie.Need-returns-6
-returns-6 c =
-    c .are-zero .ensures
-    ∙ sym (parts (c .before .before .before .before .before .before .before .before .before .before .before) ∙ rw (sym (c .before .before .before .before .before .before .before .before .before .rises .ensures) ∙ not-false _ (c .before .before .before .before .before .before .before .before .if3 .left), sym (c .before .before .before .before .before .before .are-shaped .ensures) ∙ not-false _ (c .before .before .before .before .before .if4 .left), sym (c .before .before .before .are-live .ensures) ∙ not-false _ (c .before .before .if5 .left)))
+returns-6 c = c .are-zero .ensures ∙ sym (parts (c .before .before .before .before .before .before .before .before .before .before .before) ∙ rw (sym (c .before .before .before .before .before .before .before .before .before .rises .ensures) ∙ not-false _ (c .before .before .before .before .before .before .before .before .if3 .left), sym (c .before .before .before .before .before .before .are-shaped .ensures) ∙ not-false _ (c .before .before .before .before .before .if4 .left), sym (c .before .before .before .are-live .ensures) ∙ not-false _ (c .before .before .if5 .left)))
 
 pub in-order-spec : {M : Type 1} → statement M
 in-order-spec =
     tie.close
     (tie.spec
     returns
-    count-of-requires
+    header-of-requires
     returns-2
     in-use-requires
     add-rises

@@ -1,5 +1,7 @@
 use borrow.Author.Needs.{needs}
 use mathlib.Core.Path.{ap, _∙_}
+use Rattle.model.specs.Unit.{rows}
+use Rattle.model.proofs.Ends.{told}
 use Rattle.rights_c.specs.Exports.{flag}
 use Rattle.rights_c.proofs.rows_unit.rights_rows_check.Statement.{statement}
 use Rattle.rights_c.proofs.rows_unit.rights_rows_check.Tie as tie
@@ -15,8 +17,9 @@ checked-number-requires c κs = search needs
 
 returns : tie.Need-returns
 returns c =
-    let e = c .before .before .check .ensures in
-    (c .checked-number .ensures ∙ e .0, c .before .checked-yes .ensures ∙ ap flag (e .1), e .2)
+    let q = c .before .before .before .before .args in
+    let r = told rows (q .image .now) (q .who) (q .on) (q .right) _ _ (c .before .before .check .ensures) in
+    (c .checked-number .ensures ∙ r .0, c .before .checked-yes .ensures ∙ ap flag (r .1), r .2)
 
 pub rights-rows-check-spec : {M : Type 1} → statement M
 rights-rows-check-spec =

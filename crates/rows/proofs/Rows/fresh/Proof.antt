@@ -1,5 +1,4 @@
 use mathlib.Core.Path.{refl, sym}
-use Prim.Native.Nat.{_-_}
 use native.Mathlib.Omega.{arith}
 use Rattle.model.specs.Unit.{rows}
 use Rattle.model.proofs.Unit.{rows-laws}

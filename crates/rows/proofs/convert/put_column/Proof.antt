@@ -5,7 +5,6 @@ use lib.ListN.{length, length-set}
 use Rattle.model.specs.Bits.{withoutBit}
 use Rattle.model.specs.Unit.{lists, rows}
 use Rattle.model.specs.Convert.{convert}
-use Rattle.model.proofs.Lowest.{without-lowest}
 use Rattle.model.proofs.Pending.{lacking, pending, lacking-length}
 use Rattle.rows.proofs.Turned.{rows-open, rows-put, rows-close}
 use Rattle.rows.proofs.convert.put_column.Statement.{statement}

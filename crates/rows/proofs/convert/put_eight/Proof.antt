@@ -10,7 +10,6 @@ use Rattle.model.specs.Unit.{lists, rows}
 use Rattle.model.specs.Convert.{convert}
 use Rattle.model.proofs.Bits.{bit-without}
 use Rattle.model.proofs.Sets.{fst}
-use Rattle.model.proofs.Lowest.{without-lowest}
 use Rattle.model.proofs.Pending.{lacking, pending, lacking-length}
 use Rattle.rows.proofs.Turned.{eights, eighth, lists-open, lists-put, lists-close}
 use Rattle.rows.proofs.convert.put_eight.Statement.{statement}

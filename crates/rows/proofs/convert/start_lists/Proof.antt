@@ -1,8 +1,8 @@
-use mathlib.Core.Path.{_≡_, ap, _∙_}
-use native.Mathlib.Omega.{arith}
+use mathlib.Core.Path.{_∙_}
 use borrow.Author.Needs.{needs}
-use lib.ListN.{length, getD, length-set, length-replicate}
-use Rattle.rows.proofs.Turned.{zeros, lists-begin}
+use Rattle.model.proofs.Sweep.{swept-zero}
+use Rattle.lists.proofs.Zeroed.{zeroed}
+use Rattle.rows.proofs.Turned.{lists-begin}
 use Rattle.rows.proofs.convert.start_lists.Statement.{statement}
 use Rattle.rows.proofs.convert.start_lists.Tie as tie
 
@@ -13,18 +13,17 @@ eight-requires : tie.Need-eight-requires
 eight-requires c κs = search needs
 
 slice-write-target : tie.Need-slice-write-target
-slice-write-target c =
-    let e : length (c .before .before .before .clear .last .0) ≡ 513 = ap length (c .before .before .before .clear .ensures) ∙ length-replicate _ _ ∙ c .before .before .before .before .before .before .before .pre .1 in
-    omega arith
+slice-write-target c = search needs
 
 same-length : tie.Need-same-length
-same-length c = simp length-set (ap length (c .before .before .before .clear .ensures) ∙ length-replicate _ _)
+same-length c = search needs
 
 returns : tie.Need-returns
 returns c =
-    let s = c .before .before .before .before .before .before .before .args .source .now in
-    let p = c .before .before .before .before .before .before .before .pre .1 in
-    lists-begin s (c .before .before .before .clear .last .0) _ (ap length (c .before .before .before .clear .ensures) ∙ length-replicate _ _ ∙ p) (λ i. ap (λ x. getD x i 0) (c .before .before .before .clear .ensures) ∙ zeros (length (c .before .before .before .before .before .before .before .args .target .now)) i) (c .eight .ensures)
+    let start = c .before .before .before .before .before .before .before in
+    let cleared = c .before .before .before .clear in
+    let zero = zeroed (start .args .target .now) (cleared .last .0) (cleared .ensures) in
+    lists-begin (start .args .source .now) (cleared .last .0) _ (zero .long ∙ start .pre .1) (swept-zero (start .args .target .now) (cleared .last .0) zero) (c .eight .ensures)
 
 pub start-lists-spec : {M : Type 1} → statement M
 start-lists-spec =

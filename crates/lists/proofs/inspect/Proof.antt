@@ -1,0 +1,14 @@
+use borrow.Author.Needs.{needs}
+use Rattle.model.specs.Unit.{lists}
+use Rattle.model.proofs.Ends.{inspected}
+use Rattle.lists.proofs.inspect.Statement.{statement}
+use Rattle.lists.proofs.inspect.Tie as tie
+
+order-requires : tie.Need-order-requires
+order-requires c κs = search needs
+
+returns : tie.Need-returns
+returns c = inspected lists (c .before .before .args .image .now) _ (c .order .ensures)
+
+pub inspect-spec : {M : Type 1} → statement M
+inspect-spec = tie.close (tie.spec order-requires returns)

@@ -1,0 +1,116 @@
+-- An answer and its number tell each other, since no two answers have one number; so a contract that names the answer says as much as
+-- one that names the number, and the case besides.
+use mathlib.Core.Path.{_≡_, refl, sym, ap, _∙_}
+use mathlib.Core.Bool.{Bool, true, false, not, _&&_, cond}
+use Prim.Native.Nat.{ℕ, zero, suc, _+_, _≤_}
+use native.Mathlib.Omega.{arith}
+use borrow.Author.Tests.{eq-eqb, ne-eqb}
+use lib.Dec.{eqb}
+use Rattle.model.specs.declared.Facts.{Facts}
+use Rattle.model.specs.declared.Arguments.{Arguments}
+use Rattle.model.specs.declared.Answer.{Answer}
+use Rattle.model.specs.declared.Answer.the-variants as is
+use Rattle.model.specs.declared.Checked.{Checked}
+use Rattle.model.specs.declared.Checked.the-variants as checked
+use Rattle.model.specs.declared.ChainChecked.{ChainChecked}
+use Rattle.model.specs.declared.ChainChecked.the-variants as chain
+use Rattle.model.specs.Answers.{numberOf, answerFor, Numbered, checkedNumber, checkedYes, checkedOf, Found, nothing, chainNumber, foundIn, foundSaid, chainCheckedOf, table, answer, asked, knows}
+use Rattle.model.specs.Commands.{fits, items, rightDepth}
+
+pub answer-for : (a : Answer) → answerFor (numberOf a) ≡ a
+unfolding answerFor
+answer-for is.Done = refl
+answer-for is.WrongLength = refl
+answer-for is.NotInOrder = refl
+answer-for is.OutOfRange = refl
+answer-for is.ByDead = refl
+answer-for is.NamedDead = refl
+answer-for is.AlreadyLive = refl
+answer-for is.RootItem = refl
+answer-for is.NoEdit = refl
+answer-for is.EditRight = refl
+answer-for is.Full = refl
+answer-for is.Malformed = refl
+
+pub answer-is : (a : Answer) (n : ℕ) → numberOf a ≡ n → a ≡ answerFor n
+answer-is a n e = sym (answer-for a) ∙ ap answerFor e
+
+pub numbered : (a : Answer) (n : ℕ) → numberOf a ≡ n → Numbered a n
+numbered a n e = (e, answer-is a n e)
+
+-- a number that some answer has
+pub record Known (n : ℕ) : Type 0 where
+  pub answer : Answer
+  pub number : numberOf answer ≡ n
+
+pub number-for : (n : ℕ) → Known n → numberOf (answerFor n) ≡ n
+number-for n k = ap numberOf (sym (answer-is (k .answer) n (k .number))) ∙ k .number
+
+known-row : (b : Bool) (n m : ℕ) → Known n → Known m → Known (cond b n m)
+known-row true n m h k = h
+known-row false n m h k = k
+
+-- the numbers of the table
+pub table-known : (f : Facts) (a : Arguments) → Known (table f a)
+table-known f a =
+    known-row (not (f .by)) 4 _ (record { answer = is.ByDead; number = refl })
+    (known-row (knows (a .verb) 5 && not (f .on && f .to)) 5 _ (record { answer = is.NamedDead; number = refl })
+    (known-row (knows (a .verb) 6 && f .on) 6 _ (record { answer = is.AlreadyLive; number = refl })
+    (known-row (knows (a .verb) 7 && eqb (a .on) 0) 7 _ (record { answer = is.RootItem; number = refl })
+    (known-row (knows (a .verb) 8 && not (f .edits)) 8 _ (record { answer = is.NoEdit; number = refl })
+    (known-row (knows (a .verb) 9 && eqb (a .right) 0) 9 _ (record { answer = is.EditRight; number = refl })
+    (known-row (knows (a .verb) 10 && f .full) 10 _ (record { answer = is.Full; number = refl }) (record { answer = is.Done; number = refl })))))))
+
+pub answer-known : (f : Facts) (a : Arguments) → Known (answer f a)
+answer-known f a = known-row (not (fits a)) 3 _ (record { answer = is.OutOfRange; number = refl }) (table-known f a)
+
+pub asked-known : (p o r : ℕ) → Known (asked p o r)
+asked-known p o r = known-row (not (items p o && rightDepth r 0)) 3 0 (record { answer = is.OutOfRange; number = refl }) (record { answer = is.Done; number = refl })
+
+-- numbers 1 and 2 before another
+pub guards-known : (a b : Bool) (n : ℕ) → Known n → Known (cond (not a) 1 (cond (not b) 2 n))
+guards-known a b n k =
+    known-row (not a) 1 _ (record { answer = is.WrongLength; number = refl })
+    (known-row (not b) 2 _ (record { answer = is.NotInOrder; number = refl }) k)
+
+-- ---- checks
+-- a refusal
+pub checked-refused : (a : Answer) (n : ℕ) (b : Bool) → numberOf a ≡ n → (n ≡ 0 → ⊥) → checked.Refused a ≡ checkedOf n b
+unfolding checkedOf
+checked-refused a n b e h = ap checked.Refused (answer-is a n e) ∙ sym (rw (ne-eqb n 0 h))
+
+pub checked-number : (n : ℕ) (b : Bool) → Known n → checkedNumber (checkedOf n b) ≡ n
+unfolding checkedOf
+checked-number zero true k = refl
+checked-number zero false k = refl
+checked-number (suc n) b k = rw (ne-eqb (suc n) 0 (λ z. omega arith)) (number-for (suc n) k)
+
+pub checked-yes : (n : ℕ) (b : Bool) → checkedYes (checkedOf n b) ≡ eqb n 0 && b
+unfolding checkedOf
+checked-yes zero true = refl
+checked-yes zero false = refl
+checked-yes (suc n) b = rw (ne-eqb (suc n) 0 (λ z. omega arith))
+
+pub chain-refused : (a : Answer) (n : ℕ) (f : Found) → numberOf a ≡ n → (n ≡ 0 → ⊥) → chain.Refused a ≡ chainCheckedOf n f
+unfolding chainCheckedOf
+chain-refused a n f e h = ap chain.Refused (answer-is a n e) ∙ sym (rw (ne-eqb n 0 h))
+
+pub chain-number : (n : ℕ) (f : Found) → Known n → chainNumber (chainCheckedOf n f) ≡ n
+unfolding chainCheckedOf foundSaid
+chain-number zero f k = go (f .yes)
+  where
+    go : (b : Bool) → chainNumber (cond b (chain.Yes (record { 0 = f .depth }) (f .persons)) chain.No) ≡ 0
+    go true = refl
+    go false = refl
+chain-number (suc n) f k = rw (ne-eqb (suc n) 0 (λ z. omega arith)) (number-for (suc n) k)
+
+-- what was found, where a no has no depth and no persons
+pub found-said : (f : Found) → (f .yes ≡ false → f ≡ nothing) → foundIn (foundSaid f) ≡ f
+unfolding foundSaid
+found-said f h = go (f .yes) refl
+  where
+    go : (b : Bool) → f .yes ≡ b → foundIn (cond b (chain.Yes (record { 0 = f .depth }) (f .persons)) chain.No) ≡ f
+    go true e =
+        let k : _≡_ {A = Found} (record { yes = true; depth = f .depth; persons = f .persons }) (record { yes = f .yes; depth = f .depth; persons = f .persons }) = rw e in
+        k
+    go false e = sym (h e)

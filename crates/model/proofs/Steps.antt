@@ -1,0 +1,233 @@
+-- Each command, case by case: what the journal keeps, and what the images do as the journal does. Whoever adds a command adds its
+-- clauses here; all other laws follow from these.
+use mathlib.Core.Path.{_≡_, refl, sym, ap, ap₂, _∙_}
+use mathlib.Core.Bool.{Bool, true, false, not, _&&_, _||_, cond, false≢true}
+use mathlib.Core.List.{List, [], _∷_}
+use Prim.Native.Nat.{ℕ, _≤_}
+use native.Mathlib.Omega.{arith}
+use borrow.Author.Tests.{eqb-true, eq-eqb}
+use lib.ListN.{length}
+use lib.Dec.{eqb}
+use Rattle.model.specs.declared.Command.{Command}
+use Rattle.model.specs.declared.Command.the-variants.{Create, Delete, Allow, Withdraw, Lend, Recall}
+use Rattle.model.specs.declared.loan.Header.{Header}
+use Rattle.model.specs.Sets.{keep, add}
+use Rattle.model.specs.Commands.{items, rightDepth, argumentsOf, mostLoans}
+use Rattle.model.specs.Answers.{knows, flat}
+use Rattle.model.specs.Machine.{stepOf}
+use Rattle.model.specs.Journal.{Loan, Journal, grant, loan, sameGrant, sameLoan, isTo, names, loanNames, lives, facts, answered, fresh, apply, step, run}
+use Rattle.model.specs.Unit.{Layout, grantBytes, after, flatUnit}
+use Rattle.model.specs.Loans.{wordOf, wordNames, freshHeader, loansImage}
+use Rattle.model.specs.Images.{Images, images}
+use Rattle.model.specs.ChainUnit.{chainAfter}
+use Rattle.model.proofs.Sets.{fst, snd, both, or-left, or-right, all-mono, all-keep, all-add}
+use Rattle.model.proofs.Invariant.{eqb-sym, neither, accepted, both-live, lives-create, lives-delete, ranged, sound, Inv, inv-fresh, grow}
+use Rattle.model.proofs.Unit.{Laws, imageOf, bytes-laws, rangedLoan, answer-of, created-of, deleted-of, allowed-of, withdrawn-of, same-image}
+use Rattle.model.proofs.Loans.{word-names, word-same, sorted, keep-sorted, sorted-add, length-sorted, kept-of, with-of, soundLoan, LoanInv, loans-ranged, loans-fresh, keep-loans, few-add, grow-loan, distinct-add}
+
+-- ---- what every journal keeps of its live items and grants
+inv-apply : (j : Journal) (c : Command) → Inv j → answered j c ≡ 0 → Inv (apply j c)
+inv-apply j (Create by on) v e =
+    let k = accepted (facts j (argumentsOf (Create by on))) (argumentsOf (Create by on)) e in
+    let r : items by on ≡ true = let h = k .fits in search (fst, snd, both) in
+    let up : (i : ℕ) → lives j i ≡ true → lives (apply j (Create by on)) i ≡ true
+    = λ i h. lives-create j by on i ∙ or-right (eqb i on) (lives j i) h in
+    record {
+      root = up 0 (v .root);
+      grants-sound =
+          all-add (sound (lives (apply j (Create by on)))) sameGrant (grant by on 0 0) (j .grants)
+          (both (both r refl) (both (up by (k .by)) (lives-create j by on on ∙ or-left (eqb on on) (lives j on) (eq-eqb on on refl))))
+          (all-mono (sound (lives j)) (sound (lives (apply j (Create by on)))) (j .grants) (v .grants-sound) (grow (lives j) (lives (apply j (Create by on))) up));
+    }
+inv-apply j (Delete by on) v e =
+    let k = accepted (facts j (argumentsOf (Delete by on))) (argumentsOf (Delete by on)) e in
+    let low : (i : ℕ) → eqb i on ≡ false → lives j i ≡ true → lives (apply j (Delete by on)) i ≡ true
+    = λ i n h. lives-delete j by on i ∙ both h (ap not n) in
+    record {
+      root = low 0 (eqb-sym 0 on ∙ k .root) (v .root);
+      grants-sound =
+          all-mono _ (sound (lives (apply j (Delete by on)))) _ (all-keep (sound (lives j)) (λ g. not (names on g)) (j .grants) (v .grants-sound))
+          (λ g h. let n = neither (eqb (g .person) on) (eqb (g .item) on) (snd (sound (lives j) g) _ h) in
+          let a : ranged g ≡ true = search (fst, snd) in
+          let b : lives j (g .person) ≡ true = search (fst, snd) in
+          let c : lives j (g .item) ≡ true = search (fst, snd) in
+          both a (both (low (g .person) (n .0) b) (low (g .item) (n .1) c)));
+    }
+inv-apply j (Allow by to on right depth) v e =
+    let k = accepted (facts j (argumentsOf (Allow by to on right depth))) (argumentsOf (Allow by to on right depth)) e in
+    let r : items to on && rightDepth right depth ≡ true = let h = k .fits in search (fst, snd, both) in
+    let l = both-live (lives j on) (lives j to) (k .named) in
+    record {
+      root = v .root;
+      grants-sound = all-add (sound (lives j)) sameGrant (grant to on right depth) (j .grants) (both r (both (l .1) (l .0))) (v .grants-sound);
+    }
+inv-apply j (Withdraw by to on right) v e =
+    record {
+      root = v .root;
+      grants-sound =
+          all-mono _ (sound (lives j)) _ (all-keep (sound (lives j)) (λ g. not (isTo to on right g)) (j .grants) (v .grants-sound))
+          (λ g h. fst (sound (lives j) g) (not (isTo to on right g)) h);
+    }
+inv-apply j (Lend by to on right depth) v e = record { root = v .root; grants-sound = v .grants-sound }
+inv-apply j (Recall by to on right depth) v e = record { root = v .root; grants-sound = v .grants-sound }
+
+pub inv-step : (j : Journal) (c : Command) → Inv j → Inv (step j c)
+inv-step j c v = go (eqb (answered j c) 0) refl
+  where
+    go : (b : Bool) → eqb (answered j c) 0 ≡ b → Inv (cond b (apply j c) j)
+    go true e = inv-apply j c v (eqb-true _ _ e)
+    go false e = v
+
+-- ---- and of its loans
+loans-apply : (j : Journal) (c : Command) → LoanInv j → answered j c ≡ 0 → LoanInv (apply j c)
+loans-apply j (Create by on) v e = record {
+  loans-sound =
+      all-mono (soundLoan (lives j)) (soundLoan (lives (apply j (Create by on)))) (j .loans) (v .loans-sound)
+      (λ l h. grow-loan (lives j) (lives (apply j (Create by on))) l (λ i k. lives-create j by on i ∙ or-right (eqb i on) (lives j i) k) h);
+  loans-distinct = v .loans-distinct;
+  loans-few = v .loans-few;
+}
+loans-apply j (Delete by on) v e =
+    let k = keep-loans j (λ l. not (loanNames on l)) v in
+    let low : (i : ℕ) → eqb i on ≡ false → lives j i ≡ true → lives (apply j (Delete by on)) i ≡ true
+    = λ i n h. lives-delete j by on i ∙ both h (ap not n) in
+    record {
+      loans-sound = all-mono _ (soundLoan (lives (apply j (Delete by on)))) _ (k .0)
+          (λ l h. let n = neither (eqb (l .lender) on || eqb (l .item) on) (eqb (l .borrower) on) (snd (soundLoan (lives j) l) _ h) in
+          let m = neither (eqb (l .lender) on) (eqb (l .item) on) (ap not (n .0)) in
+          let s : soundLoan (lives j) l ≡ true = fst (soundLoan (lives j) l) (not (loanNames on l)) h in
+          let a : rangedLoan l && not (eqb (l .right) 0) ≡ true = fst _ (lives j (l .lender) && lives j (l .item) && lives j (l .borrower)) s in
+          let b : lives j (l .lender) ≡ true = search (fst, snd) in
+          let c : lives j (l .item) ≡ true = search (fst, snd) in
+          let d : lives j (l .borrower) ≡ true = search (fst, snd) in
+          both a (both (both (low (l .lender) (m .0) b) (low (l .item) (m .1) c)) (low (l .borrower) (n .1) d)));
+      loans-distinct = k .1;
+      loans-few = k .2;
+    }
+loans-apply j (Allow by to on right depth) v e =
+    record { loans-sound = v .loans-sound; loans-distinct = v .loans-distinct; loans-few = v .loans-few }
+loans-apply j (Withdraw by to on right) v e =
+    record { loans-sound = v .loans-sound; loans-distinct = v .loans-distinct; loans-few = v .loans-few }
+loans-apply j (Lend by to on right depth) v e =
+    let k = accepted (facts j (argumentsOf (Lend by to on right depth))) (argumentsOf (Lend by to on right depth)) e in
+    let l = both-live (lives j on) (lives j to) (k .named) in
+    record {
+      loans-sound = all-add (soundLoan (lives j)) sameLoan (loan by on right to depth) (j .loans) (both (both (k .fits) (ap not (k .right))) (both (both (k .by) (l .0)) (l .1))) (v .loans-sound);
+      loans-distinct = distinct-add (loan by on right to depth) (j .loans) (v .loans-distinct);
+      loans-few = few-add (loan by on right to depth) (j .loans) (v .loans-few) (k .full);
+    }
+loans-apply j (Recall by to on right depth) v e =
+    let k = keep-loans j (λ l. not (sameLoan (loan by on right to depth) l)) v in
+    record {
+      loans-sound = all-mono _ (soundLoan (lives j)) _ (k .0) (λ l h. fst (soundLoan (lives j) l) (not (sameLoan (loan by on right to depth) l)) h);
+      loans-distinct = k .1;
+      loans-few = k .2;
+    }
+
+pub loans-step : (j : Journal) (c : Command) → LoanInv j → LoanInv (step j c)
+loans-step j c v = go (eqb (answered j c) 0) refl
+  where
+    go : (b : Bool) → eqb (answered j c) 0 ≡ b → LoanInv (cond b (apply j c) j)
+    go true e = loans-apply j c v (eqb-true _ _ e)
+    go false e = v
+
+pub record Kept (j : Journal) : Type 0 where
+  pub inv : Inv j
+  pub loan-inv : LoanInv j
+
+pub kept-fresh : Kept fresh
+kept-fresh = record { inv = inv-fresh; loan-inv = loans-fresh }
+
+pub kept-step : (j : Journal) (c : Command) → Kept j → Kept (step j c)
+kept-step j c v = record { inv = inv-step j c (v .inv); loan-inv = loans-step j c (v .loan-inv) }
+
+pub kept-run : (cs : List Command) (j : Journal) → Kept j → Kept (run j cs)
+kept-run [] j v = v
+kept-run (c ∷ cs) j v = kept-run cs (step j c) (kept-step j c v)
+
+-- ---- lists and rows
+-- lend alone asks whether the loans are full, and lists and rows lack it
+pub flat-lends : (c : Command) → flat c ≡ true → knows (argumentsOf c .verb) 10 ≡ false
+flat-lends (Create by on) h = refl
+flat-lends (Delete by on) h = refl
+flat-lends (Allow by to on right depth) h = refl
+flat-lends (Withdraw by to on right) h = refl
+flat-lends (Lend by to on right depth) h = absurd (false≢true h)
+flat-lends (Recall by to on right depth) h = refl
+
+module _ (L : Layout) (W : Laws L) where
+  after-of : (j : Journal) → Inv j → (c : Command) → flat c ≡ true → after L (imageOf L W j) (argumentsOf c) ≡ imageOf L W (apply j c)
+  after-of j v (Create by on) h = created-of L W j v by on
+  after-of j v (Delete by on) h = deleted-of L W j v by on
+  after-of j v (Allow by to on right depth) h = allowed-of L W j v by to on right depth
+  after-of j v (Withdraw by to on right) h = withdrawn-of L W j v by to on right
+  after-of j v (Lend by to on right depth) h = absurd (false≢true h)
+  after-of j v (Recall by to on right depth) h = absurd (false≢true h)
+
+  pub step-of : (j : Journal) → Inv j → (c : Command) → flat c ≡ true → stepOf (flatUnit L) (imageOf L W j) c ≡ imageOf L W (step j c)
+  step-of j v c h = rw (answer-of L W j v c (flat-lends c h)) (go (eqb (answered j c) 0))
+    where
+      go : (b : Bool) → cond b (after L (imageOf L W j) (argumentsOf c)) (imageOf L W j) ≡ imageOf L W (cond b (apply j c) j)
+      go true = after-of j v c h
+      go false = refl
+
+-- ---- the chain unit
+abbrev pub grantsOf : Journal → List ℕ
+grantsOf j = imageOf grantBytes bytes-laws j
+
+-- what the table's header says of a journal beside the number of its loans
+abbrev pub headerFor : Journal → Header
+headerFor j = freshHeader
+
+abbrev loansOf : Journal → List Loan → List ℕ
+loansOf j ls = loansImage (headerFor j) (sorted ls)
+
+-- the images of a journal
+abbrev pub imagesOf : Journal → Images
+imagesOf j = record { grants = grantsOf j; loans = loansOf j (j .loans) }
+
+pub few : (j : Journal) → LoanInv j → length (sorted (j .loans)) ≡ length (j .loans)
+few j v = length-sorted (j .loans) (loans-ranged j v) (v .loans-distinct)
+
+pub few-sorted : (j : Journal) → LoanInv j → length (sorted (j .loans)) ≤ mostLoans
+few-sorted j v = omega (arith, few j v, v .loans-few)
+
+pub chain-after : (j : Journal) → Kept j → (c : Command) → answered j c ≡ 0 → chainAfter (imagesOf j) (argumentsOf c) ≡ imagesOf (apply j c)
+chain-after j v (Create by on) e = ap (λ g. images g (loansOf j (j .loans))) (created-of grantBytes bytes-laws j (v .inv) by on)
+chain-after j v (Delete by on) e =
+    ap₂ images (deleted-of grantBytes bytes-laws j (v .inv) by on)
+    (kept-of (headerFor j) (sorted (j .loans)) (few-sorted j (v .loan-inv)) (λ w. not (wordNames on w))
+    ∙ ap (loansImage (headerFor j))
+    (keep-sorted (λ l. not (loanNames on l)) (λ w. not (wordNames on w)) rangedLoan (j .loans) (loans-ranged j (v .loan-inv)) (λ l h. ap not (word-names on l h))))
+chain-after j v (Allow by to on right depth) e =
+    ap (λ g. images g (loansOf j (j .loans))) (allowed-of grantBytes bytes-laws j (v .inv) by to on right depth)
+chain-after j v (Withdraw by to on right) e =
+    ap (λ g. images g (loansOf j (j .loans))) (withdrawn-of grantBytes bytes-laws j (v .inv) by to on right)
+chain-after j v (Lend by to on right depth) e =
+    let a = argumentsOf (Lend by to on right depth) in
+    ap₂ images (same-image grantBytes bytes-laws j (apply j (Lend by to on right depth)) refl refl)
+    (with-of (headerFor j) (sorted (j .loans)) (few-sorted j (v .loan-inv)) (wordOf (loan by on right to depth))
+    ∙ ap (loansImage (headerFor j)) (sym (sorted-add (loan by on right to depth) (j .loans) (accepted (facts j a) a e .fits) (loans-ranged j (v .loan-inv)))))
+chain-after j v (Recall by to on right depth) e =
+    let a = argumentsOf (Recall by to on right depth) in
+    let l = loan by on right to depth in
+    ap₂ images (same-image grantBytes bytes-laws j (apply j (Recall by to on right depth)) refl refl)
+    (kept-of (headerFor j) (sorted (j .loans)) (few-sorted j (v .loan-inv)) (λ w. not (eqb (wordOf l) w))
+    ∙ ap (loansImage (headerFor j))
+    (keep-sorted (λ m. not (sameLoan l m)) (λ w. not (eqb (wordOf l) w)) rangedLoan (j .loans)
+    (loans-ranged j (v .loan-inv)) (λ m h. ap not (word-same l m (accepted (facts j a) a e .fits) h))))
+
+-- ---- the whole journal j and one that is fed only what lists and rows have, k: alike in live items and grants
+pub record Alike (j k : Journal) : Type 0 where
+  pub live : j .live ≡ k .live
+  pub grants : j .grants ≡ k .grants
+
+-- what lists and rows lack leaves both alone
+pub alike-apply : {j k : Journal} → Alike j k → (c : Command) → Alike (apply j c) (cond (flat c) (apply k c) k)
+alike-apply a (Create by on) = record { live = ap (add eqb on) (a .live); grants = ap (add sameGrant (grant by on 0 0)) (a .grants) }
+alike-apply a (Delete by on) =
+    record { live = ap (keep (λ i. not (eqb i on))) (a .live); grants = ap (keep (λ g. not (names on g))) (a .grants) }
+alike-apply a (Allow by to on right depth) = record { live = a .live; grants = ap (add sameGrant (grant to on right depth)) (a .grants) }
+alike-apply a (Withdraw by to on right) = record { live = a .live; grants = ap (keep (λ g. not (isTo to on right g))) (a .grants) }
+alike-apply a (Lend by to on right depth) = record { live = a .live; grants = a .grants }
+alike-apply a (Recall by to on right depth) = record { live = a .live; grants = a .grants }
