@@ -4,30 +4,16 @@ mod generator;
 mod model;
 
 use generator::Random;
-use model::{word_of, Command, Ending, Grant, Journal, Loan};
+use model::commands::{allow, create, delete, lend, recall, withdraw, BASE};
+use model::{word_of, Ending, Grant, Journal, Loan};
 
 const ON: u32 = 9;
 const RIGHT: u32 = 1;
 
-fn create(by: u32, on: u32) -> Command {
-    Command::Create { by, on }
-}
-
-fn lend(by: u32, to: u32, depth: u32) -> Command {
-    Command::Lend { by, to, on: ON, right: RIGHT, depth }
-}
-
-fn allow(by: u32, to: u32, depth: u32) -> Command {
-    Command::Allow { by, to, on: ON, right: RIGHT, depth }
-}
-
 /// The journal that every handover example starts from.
 fn base() -> Journal {
     let mut journal = Journal::fresh();
-    for on in [3, 4, 5, 9] {
-        assert_eq!(journal.give(create(0, on)), 0);
-    }
-    for command in [allow(0, 3, 2), lend(3, 4, 1), lend(4, 5, 0)] {
+    for command in BASE {
         assert_eq!(journal.give(command), 0);
     }
     journal
@@ -49,19 +35,19 @@ fn checks_e1_to_e3() {
 #[test]
 fn changes_e4_to_e7() {
     let mut e4 = base();
-    assert_eq!(e4.give(Command::Recall { by: 3, to: 4, on: ON, right: RIGHT, depth: 0 }), 0);
+    assert_eq!(e4.give(recall(3, 4, ON, RIGHT, 0)), 0);
     assert_eq!(best(&e4, 4), Some(1));
     let mut e5 = base();
-    assert_eq!(e5.give(Command::Withdraw { by: 0, to: 3, on: ON, right: RIGHT }), 0);
+    assert_eq!(e5.give(withdraw(0, 3, ON, RIGHT)), 0);
     assert_eq!(best(&e5, 5), None);
-    assert_eq!(e5.give(allow(0, 3, 1)), 0);
+    assert_eq!(e5.give(allow(0, 3, ON, RIGHT, 1)), 0);
     assert_eq!((best(&e5, 4), best(&e5, 5)), (Some(0), None));
     let mut e6 = base();
-    assert_eq!(e6.give(lend(3, 5, 5)), 0);
+    assert_eq!(e6.give(lend(3, 5, ON, RIGHT, 5)), 0);
     assert_eq!(best(&e6, 5), Some(1));
     assert_eq!(e6.through(&[3, 5], ON, RIGHT), Some(1));
     let mut e7 = base();
-    assert_eq!(e7.give(Command::Delete { by: 0, on: 4 }), 0);
+    assert_eq!(e7.give(delete(0, 4)), 0);
     assert_eq!(e7.give(create(0, 4)), 0);
     assert_eq!(best(&e7, 4), None);
 }
@@ -70,7 +56,7 @@ fn changes_e4_to_e7() {
 #[test]
 fn depth_of_a_loan_binds() {
     let mut journal = base();
-    assert_eq!(journal.give(allow(0, 3, 7)), 0);
+    assert_eq!(journal.give(allow(0, 3, ON, RIGHT, 7)), 0);
     assert_eq!(best(&journal, 4), Some(1));
     assert_eq!(best(&journal, 5), Some(0));
 }
@@ -81,8 +67,8 @@ fn numbers_e8_to_e12() {
     assert_eq!(journal.give(create(0, 63)), 0);
     assert_eq!(journal.give(create(0, 64)), 3);
     assert_eq!(journal.give(create(0, 3)), 6);
-    assert_eq!(journal.give(Command::Delete { by: 3, on: 0 }), 7);
-    assert_eq!(journal.give(allow(3, 4, 0)), 8);
+    assert_eq!(journal.give(delete(3, 0)), 7);
+    assert_eq!(journal.give(allow(3, 4, ON, RIGHT, 0)), 8);
     assert_eq!(journal.give(create(7, 3)), 4);
 }
 
@@ -93,13 +79,12 @@ fn full_e13() {
     let pairs = persons.iter().flat_map(|by| persons.iter().map(move |to| (*by, *to)));
     let on_keys = pairs.flat_map(|(by, to)| (2..8).map(move |right| (by, to, right)));
     let every = on_keys.flat_map(|(by, to, right)| (0..8).map(move |depth| (by, to, right, depth)));
-    let numbers: Vec<u32> = every
-        .map(|(by, to, right, depth)| journal.give(Command::Lend { by, to, on: ON, right, depth }))
-        .collect();
+    let numbers: Vec<u32> =
+        every.map(|(by, to, right, depth)| journal.give(lend(by, to, ON, right, depth))).collect();
     assert_eq!(numbers[..1022], [0; 1022]);
     assert!(numbers[1022..].iter().all(|&number| number == 10));
     assert_eq!(journal.loans.len(), 1024);
-    assert_eq!(journal.give(lend(3, 4, 1)), 0);
+    assert_eq!(journal.give(lend(3, 4, ON, RIGHT, 1)), 0);
 }
 
 #[test]

@@ -11,19 +11,19 @@ use Rattle.model.specs.declared.Verb.the-variants as verb
 use Rattle.model.specs.declared.Arguments.{Arguments}
 use Rattle.model.specs.declared.Facts.{Facts}
 use Rattle.model.specs.declared.Answer.{Answer}
-use Rattle.model.specs.Sets.{any}
+use Rattle.bits.specs.Sets.{any}
 use Rattle.model.specs.Commands.{mostLoans}
 use Rattle.model.specs.Answers.{numberOf, answerFor, table, knows}
 use Rattle.model.specs.Journal.{loanIn}
-use Rattle.model.specs.Unit.{grantBytes, liveIn, inOrder}
-use Rattle.model.specs.Loans.{wordOf, tableWords, countOf, used, loansWith, loansKept}
-use Rattle.model.specs.Images.{Images, images}
-use Rattle.model.specs.ChainUnit.{chainFacts, chainDone, chainAfter, chainUnit}
-use Rattle.model.proofs.Sets.{snd}
+use Rattle.layouts.specs.Layouts.{grantBytes, liveIn, inOrder}
+use Rattle.delegation.specs.Loans.{wordOf, loanWords, countOf, used, loansWith, loansKept}
+use Rattle.delegation.specs.Images.{Images, images}
+use Rattle.delegation.specs.ChainUnit.{chainFacts, chainDone, chainAfter, chainUnit}
+use Rattle.bits.proofs.Sets.{snd}
 use Rattle.model.proofs.Invariant.{passed, blocked}
-use Rattle.model.proofs.Ends.{judged-number}
-use Rattle.loans.specs.Table.{Ordered}
-use Rattle.loans.proofs.Table.{ordered}
+use Rattle.layouts.proofs.Ends.{judged-number}
+use Rattle.loans.specs.Words.{Ordered}
+use Rattle.loans.proofs.Standing.{ordered}
 use Rattle.chains.specs.Ready.{Ready, Accepted}
 
 -- what the table of answers lets through
@@ -59,5 +59,5 @@ pub stepped : {x y : List ℕ} (s : Images) → x ≡ s .grants → y ≡ s .loa
 stepped s p q = λ j. images (p j) (q j)
 
 -- what a pass over a table of the right length leaves
-pub kept-table : (t y z : List ℕ) → length t ≡ tableWords → y ≡ cond (eqb (length t) tableWords) z t → y ≡ z
-kept-table t y z l e = e ∙ rw (eq-eqb (length t) tableWords l)
+pub kept-loans : (t y z : List ℕ) → length t ≡ loanWords → y ≡ cond (eqb (length t) loanWords) z t → y ≡ z
+kept-loans t y z l e = e ∙ rw (eq-eqb (length t) loanWords l)

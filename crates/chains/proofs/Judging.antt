@@ -17,23 +17,23 @@ use Rattle.model.specs.declared.Answer.{Answer}
 use Rattle.model.specs.declared.Answer.the-variants as is
 use Rattle.model.specs.declared.Question.the-variants as question
 use Rattle.model.specs.declared.Within.the-variants as within
-use Rattle.model.specs.Sets.{any}
+use Rattle.bits.specs.Sets.{any}
 use Rattle.model.specs.Commands.{argumentsOf, mostLoans, Ranged, questionOf, withinOf, rawOf}
 use Rattle.model.specs.Answers.{numberOf}
 use Rattle.model.specs.Journal.{loan, loanIn}
-use Rattle.model.specs.Live.{masksOf}
-use Rattle.model.specs.Unit.{grantBytes, grantCells, liveIn, held, inOrder, freshImage, freshOf}
-use Rattle.model.specs.Loans.{wordOf, cut, tableWords, countOf, used, freshHeader, loansImage, loansInOrder}
-use Rattle.model.specs.Images.{Images, images}
-use Rattle.model.specs.ChainUnit.{chainInOrder, chainGuarded, chainFacts, chainFresh, ChainFreshens, ChainInspects}
-use Rattle.model.proofs.Sets.{fst, snd}
+use Rattle.layouts.specs.Live.{masksOf}
+use Rattle.layouts.specs.Layouts.{grantBytes, grantCells, liveIn, held, inOrder, freshImage, freshOf}
+use Rattle.delegation.specs.Loans.{wordOf, cut, loanWords, countOf, used, freshHeader, loansImage, loansInOrder}
+use Rattle.delegation.specs.Images.{Images, images}
+use Rattle.delegation.specs.ChainUnit.{chainInOrder, chainGuarded, chainFacts, chainFresh, ChainFreshens, ChainInspects}
+use Rattle.bits.proofs.Sets.{fst, snd}
 use Rattle.model.proofs.Answers.{numbered}
-use Rattle.model.proofs.Indexed.{getD-tabulate}
+use Rattle.bits.proofs.Indexed.{getD-tabulate}
 use Rattle.model.proofs.Commands.{asked-ranged}
-use Rattle.model.proofs.Ends.{ran-ranged}
-use Rattle.model.proofs.ChainEnds.{chain-readable}
-use Rattle.loans.specs.Table.{unmasked}
-use Rattle.loans.proofs.Table.{masked, cut-none}
+use Rattle.layouts.proofs.Ends.{ran-ranged}
+use Rattle.delegation.proofs.ChainEnds.{chain-readable}
+use Rattle.loans.specs.Words.{unmasked}
+use Rattle.loans.proofs.Standing.{masked, cut-none}
 use Rattle.search.specs.InShape.{InShape}
 use Rattle.chains.specs.Ready.{Ready}
 
@@ -43,28 +43,28 @@ module _ (g t : List ℕ) (room : Bool) where
   order-grants h = rw (ne-eqb (length g) grantCells h)
 
   module _ (l : length g ≡ grantCells) where
-    pub order-loans : (length t ≡ tableWords → ⊥) → 1 ≡ chainGuarded (images g t) room 0
-    order-loans h = rw (eq-eqb (length g) grantCells l, ne-eqb (length t) tableWords h)
+    pub order-loans : (length t ≡ loanWords → ⊥) → 1 ≡ chainGuarded (images g t) room 0
+    order-loans h = rw (eq-eqb (length g) grantCells l, ne-eqb (length t) loanWords h)
 
-    module _ (k : length t ≡ tableWords) where
+    module _ (k : length t ≡ loanWords) where
       pub order-room : room ≡ false → 1 ≡ chainGuarded (images g t) room 0
-      order-room e = rw (eq-eqb (length g) grantCells l, eq-eqb (length t) tableWords k, e)
+      order-room e = rw (eq-eqb (length g) grantCells l, eq-eqb (length t) loanWords k, e)
 
       pub order-named : room ≡ true → inOrder grantBytes g ≡ false → 2 ≡ chainGuarded (images g t) room 0
-      order-named e o = rw (eq-eqb (length g) grantCells l, eq-eqb (length t) tableWords k, e, o)
+      order-named e o = rw (eq-eqb (length g) grantCells l, eq-eqb (length t) loanWords k, e, o)
 
       module _ (e : room ≡ true) (o : inOrder grantBytes g ≡ true) (m : List ℕ) (q : m ≡ masksOf g) (b : Bool)
-          (h : b ≡ (eqb (length t) tableWords && loansInOrder (unmasked m) t)) where
+          (h : b ≡ (eqb (length t) loanWords && loansInOrder (unmasked m) t)) where
         -- the masks tell of the live items as the image does
         by-live : b ≡ loansInOrder (liveIn grantBytes g) t
         unfolding masksOf grantBytes
-        by-live = h ∙ rw (eq-eqb (length t) tableWords k) (masked (liveIn grantBytes g) m t (λ i z. ap (λ (x : List ℕ). getD x i 0) q ∙ getD-tabulate 64 _ i 0 z))
+        by-live = h ∙ rw (eq-eqb (length t) loanWords k) (masked (liveIn grantBytes g) m t (λ i z. ap (λ (x : List ℕ). getD x i 0) q ∙ getD-tabulate 64 _ i 0 z))
 
         pub order-lent : b ≡ false → 2 ≡ chainGuarded (images g t) room 0
-        order-lent z = rw (eq-eqb (length g) grantCells l, eq-eqb (length t) tableWords k, e, o, ← by-live, z)
+        order-lent z = rw (eq-eqb (length g) grantCells l, eq-eqb (length t) loanWords k, e, o, ← by-live, z)
 
         pub order-done : b ≡ true → 0 ≡ chainGuarded (images g t) room 0
-        order-done z = rw (eq-eqb (length g) grantCells l, eq-eqb (length t) tableWords k, e, o, ← by-live, z)
+        order-done z = rw (eq-eqb (length g) grantCells l, eq-eqb (length t) loanWords k, e, o, ← by-live, z)
 
 pub inspected : (s : Images) (r : Answer) → numberOf r ≡ chainGuarded s true 0 → ChainInspects s r s
 inspected s r e = (numbered r _ e, refl)
@@ -75,25 +75,25 @@ module _ (g t : List ℕ) where
   fresh-grants h = rw (ne-eqb (length g) grantCells h) (numbered is.WrongLength 1 refl, refl)
 
   module _ (l : length g ≡ grantCells) where
-    pub fresh-loans : (length t ≡ tableWords → ⊥) → ChainFreshens (images g t) is.WrongLength (images g t)
-    fresh-loans h = rw (eq-eqb (length g) grantCells l, ne-eqb (length t) tableWords h) (numbered is.WrongLength 1 refl, refl)
+    pub fresh-loans : (length t ≡ loanWords → ⊥) → ChainFreshens (images g t) is.WrongLength (images g t)
+    fresh-loans h = rw (eq-eqb (length g) grantCells l, ne-eqb (length t) loanWords h) (numbered is.WrongLength 1 refl, refl)
 
     fresh-grants-of : freshOf grantBytes g ≡ freshImage grantBytes
     unfolding grantBytes
     fresh-grants-of = rw (eq-eqb (length g) grantCells l)
 
-    pub fresh-both : (x y : List ℕ) → length t ≡ tableWords → x ≡ freshOf grantBytes g → y ≡ cond (eqb (length t) tableWords) (loansImage freshHeader []) t
+    pub fresh-both : (x y : List ℕ) → length t ≡ loanWords → x ≡ freshOf grantBytes g → y ≡ cond (eqb (length t) loanWords) (loansImage freshHeader []) t
         → ChainFreshens (images g t) is.Done (images x y)
     unfolding chainFresh
     fresh-both x y k p q =
-        let n : eqb (length t) tableWords ≡ true = eq-eqb (length t) tableWords k in
+        let n : eqb (length t) loanWords ≡ true = eq-eqb (length t) loanWords k in
         let e : y ≡ loansImage freshHeader [] = q ∙ rw n in
         let f : x ≡ freshImage grantBytes = p ∙ fresh-grants-of in
         rw (eq-eqb (length g) grantCells l, n) (numbered is.Done 0 refl, λ j. images (f j) (e j))
 
 -- ---- the facts
-pub code-is : (a : Arguments) (w : ℕ) → Ranged a → w ≡ wordOf (cut (loanIn a)) → w ≡ wordOf (loanIn a)
-code-is a w g e = e ∙ ap wordOf (cut-none a g)
+pub loan-word-is : (a : Arguments) (w : ℕ) → Ranged a → w ≡ wordOf (cut (loanIn a)) → w ≡ wordOf (loanIn a)
+loan-word-is a w g e = e ∙ ap wordOf (cut-none a g)
 
 pub facts-are : (s : Images) (a : Arguments) (r w : ℕ) (x y z h f : Bool) → r ≡ 0 → w ≡ wordOf (loanIn a)
     → x ≡ liveIn grantBytes (s .grants) (a .by) → y ≡ liveIn grantBytes (s .grants) (a .on) → z ≡ liveIn grantBytes (s .grants) (a .to)

@@ -6,14 +6,14 @@ use lib.ListN.{length}
 use Rattle.model.specs.declared.Arguments.{Arguments}
 use Rattle.model.specs.Commands.{Ranged}
 use Rattle.model.specs.Answers.{table}
-use Rattle.model.specs.Unit.{grantBytes, grantCells, deleted}
-use Rattle.model.specs.Loans.{tableWords, wordNames, loansKept}
-use Rattle.model.specs.Images.{Images}
-use Rattle.model.specs.ChainUnit.{chainInOrder, chainFacts}
+use Rattle.layouts.specs.Layouts.{grantBytes, grantCells, deleted}
+use Rattle.delegation.specs.Loans.{loanWords, wordNames, loansKept}
+use Rattle.delegation.specs.Images.{Images}
+use Rattle.delegation.specs.ChainUnit.{chainInOrder, chainFacts}
 
 pub record Ready (s : Images) (a : Arguments) : Type 0 where
   pub grants : length (s .grants) ≡ grantCells
-  pub loans : length (s .loans) ≡ tableWords
+  pub loans : length (s .loans) ≡ loanWords
   pub ordered : chainInOrder s ≡ true
   pub ranged : Ranged a
 

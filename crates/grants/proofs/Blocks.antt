@@ -9,15 +9,17 @@ use lib.ListN.{take, drop, getD}
 use lib.Seq.{getD-take, getD-drop}
 use lib.Bits.{bitAnd, bitOr}
 use lib.Dec.{eqb}
-use Rattle.model.specs.Sets.{allBelow}
-use Rattle.model.specs.Bits.{bit}
-use Rattle.model.specs.Cells.{at}
-use Rattle.model.specs.Live.{masksOf}
-use Rattle.model.specs.Unit.{grantBytes, inOrder}
-use Rattle.model.proofs.Indexed.{below-ext, below-nested, below-swap}
-use Rattle.model.proofs.Scan.{mask-both, masks-at, cell-named}
-use Rattle.model.proofs.Order.{namesLive, blockOk, order-blocks}
-use Rattle.model.proofs.Edits.{at-cell}
+use Rattle.bits.specs.Sets.{allBelow}
+use Rattle.bits.specs.Bits.{bit}
+use Rattle.bits.specs.Cells.{at}
+use Rattle.layouts.specs.Live.{masksOf}
+use Rattle.layouts.specs.Layouts.{grantBytes, inOrder}
+use Rattle.bits.proofs.Indexed.{below-ext, below-nested, below-swap}
+use Rattle.bits.proofs.Scan.{mask-both, cell-named}
+use Rattle.layouts.proofs.Masks.{masks-at}
+use Rattle.layouts.specs.Order.{namesLive, blockOk}
+use Rattle.layouts.proofs.Order.{order-blocks}
+use Rattle.bits.proofs.Marks.{at-cell}
 
 module _ (s : List ℕ) (on : ℕ) (w : on < 64) (h : (i : ℕ) → getD s i 0 < 2 ^ 8) where
   abbrev byte : ℕ → ℕ → ℕ

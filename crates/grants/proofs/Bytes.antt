@@ -9,14 +9,15 @@ use borrow.Author.Tests.{eqb-true, eq-eqb, ne-eqb, leb-true}
 use lib.ListN.{length, getD, set}
 use lib.Dec.{eqb, leb}
 use Rattle.model.specs.Journal.{grant}
-use Rattle.model.specs.Bits.{bit, withBit}
-use Rattle.model.specs.Cells.{at}
-use Rattle.model.specs.Zeros.{zeroed, spaced}
-use Rattle.model.specs.Unit.{grantBytes, grantCells, depths, held, created, deleted, allowed, withdrawn}
-use Rattle.model.proofs.Sets.{iff, fst, snd, both, any-cong}
-use Rattle.model.proofs.Unit.{bytes-laws, small}
-use Rattle.model.proofs.Edits.{Cells, marked, cleared, at-cell, allow-is, create-is}
-use Rattle.model.proofs.Zeros.{spaced-before, spaced-block, spaced-column, some-depth, withdraw-cell, delete-cells}
+use Rattle.bits.specs.Bits.{bit, withBit}
+use Rattle.bits.specs.Cells.{at}
+use Rattle.bits.specs.Zeros.{zeroed, spaced}
+use Rattle.layouts.specs.Layouts.{grantBytes, grantCells, depths, held, created, deleted, allowed, withdrawn}
+use Rattle.bits.proofs.Sets.{iff, fst, snd, both, any-cong}
+use Rattle.layouts.proofs.Layouts.{bytes-laws, small}
+use Rattle.bits.proofs.Marks.{Cells, marked, cleared, at-cell}
+use Rattle.layouts.proofs.Edits.{allow-is, create-is, some-depth, withdraw-cell, delete-cells}
+use Rattle.bits.proofs.Zeros.{spaced-before, spaced-block, spaced-column}
 
 abbrev byteAt : ℕ → ℕ → ℕ → ℕ
 byteAt p o r = 8 + (512 * o + 64 * r + p)

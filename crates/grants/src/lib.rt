@@ -1,18 +1,18 @@
 // The grants image of a chain unit, 32,776 bytes: bytes 0 to 7 are the live set, least first; byte 8 + 512 * on + 64 * right + person
 // has bit d for each depth d of the person's grants there. These are helpers for the chain unit: it has judged lengths and ranges, so
 // each function may require them.
+use bits::byte;
+use bits::bytes;
+use layouts::live;
 use model::Depth;
 use model::Item;
 use model::Right;
-use model::byte;
-use model::bytes;
-use model::live;
 ghost use mathlib.Core.Path.{_≡_};
 ghost use Prim.Native.Nat.{_+_, _*_, _<_};
 ghost use lib.ListN.{length, getD};
 ghost use Rattle.model.specs.Journal.{grant};
-ghost use Rattle.model.specs.Live.{masksOf};
-ghost use Rattle.model.specs.Unit.{grantBytes, grantCells, held, inOrder, created, deleted, allowed, withdrawn, freshImage, freshOf};
+ghost use Rattle.layouts.specs.Live.{masksOf};
+ghost use Rattle.layouts.specs.Layouts.{grantBytes, grantCells, held, inOrder, created, deleted, allowed, withdrawn, freshImage, freshOf};
 
 mod scan;
 
@@ -34,27 +34,27 @@ impl Grants {
 }
 
 // Whatever the buffer held is overwritten. One of another length stays as it is.
-pub fn fresh(image: &mut [u8])
-    ensures { λ _. ⌜ now (image .exit) ≡ freshOf grantBytes (now (image .entry)) ⌝ }
+pub fn fresh(grants: &mut [u8])
+    ensures { λ _. ⌜ now (grants .exit) ≡ freshOf grantBytes (now (grants .entry)) ⌝ }
 {
-    if image.len() != Grants::BYTES {
+    if grants.len() != Grants::BYTES {
         return;
     }
     let start = Grants::fresh();
-    bytes::clear_each(image, 0, 1, Grants::BYTES);
-    image[0] = start.live;
-    image[8] = start.edit;
+    bytes::clear_each(grants, 0, 1, Grants::BYTES);
+    grants[0] = start.live;
+    grants[8] = start.edit;
 }
 
 // Whether item 0 lives and no dead item is named. The chain unit makes the masks, since its loans are judged by them too.
-pub fn in_order(image: &[u8], masks: &[u8; 64]) -> bool
-    requires { ⌜ (length (now image) ≡ grantCells) × (now masks ≡ masksOf (now image)) ⌝ }
-    ensures { λ r. ⌜ r ≡ inOrder grantBytes (now (image .entry)) ⌝ }
+pub fn in_order(grants: &[u8], masks: &[u8; 64]) -> bool
+    requires { ⌜ (length (now grants) ≡ grantCells) × (now masks ≡ masksOf (now grants)) ⌝ }
+    ensures { λ r. ⌜ r ≡ inOrder grantBytes (now (grants .entry)) ⌝ }
 {
-    if !byte::has(image[0], 0) {
+    if !byte::has(grants[0], 0) {
         return false;
     }
-    scan::items_ok(image, masks)
+    scan::items_ok(grants, masks)
 }
 
 // Where the byte of a person, an item and a right stands.
@@ -66,47 +66,47 @@ fn place(who: Item, on: Item, right: Right) -> usize
 }
 
 // Whether the person has a grant there, of any depth.
-pub fn holds(image: &[u8], who: Item, on: Item, right: Right) -> bool
-    requires { ⌜ (length (now image) ≡ grantCells) × (who .0 < 64) × (on .0 < 64) × (right .0 < 8) ⌝ }
-    ensures { λ r. ⌜ r ≡ held grantBytes (now (image .entry)) (who .0) (on .0) (right .0) ⌝ }
+pub fn holds(grants: &[u8], who: Item, on: Item, right: Right) -> bool
+    requires { ⌜ (length (now grants) ≡ grantCells) × (who .0 < 64) × (on .0 < 64) × (right .0 < 8) ⌝ }
+    ensures { λ r. ⌜ r ≡ held grantBytes (now (grants .entry)) (who .0) (on .0) (right .0) ⌝ }
 {
     let at = place(who, on, right);
-    image[at] != 0
+    grants[at] != 0
 }
 
-pub fn put_grant(image: &mut [u8], to: Item, on: Item, right: Right, depth: Depth)
-    requires { ⌜ (length (now image) ≡ grantCells) × (to .0 < 64) × (on .0 < 64) × (right .0 < 8) × (depth .0 < 8) ⌝ }
-    ensures { λ _. ⌜ now (image .exit) ≡ allowed grantBytes (now (image .entry)) (grant (to .0) (on .0) (right .0) (depth .0)) ⌝ }
+pub fn put_grant(grants: &mut [u8], to: Item, on: Item, right: Right, depth: Depth)
+    requires { ⌜ (length (now grants) ≡ grantCells) × (to .0 < 64) × (on .0 < 64) × (right .0 < 8) × (depth .0 < 8) ⌝ }
+    ensures { λ _. ⌜ now (grants .exit) ≡ allowed grantBytes (now (grants .entry)) (grant (to .0) (on .0) (right .0) (depth .0)) ⌝ }
 {
     let at = place(to, on, right);
-    image[at] = byte::with(image[at], depth.number());
+    grants[at] = byte::with(grants[at], depth.number());
 }
 
 // Every depth ends.
-pub fn drop_grants(image: &mut [u8], to: Item, on: Item, right: Right)
-    requires { ⌜ (length (now image) ≡ grantCells) × (to .0 < 64) × (on .0 < 64) × (right .0 < 8) ⌝ }
-    ensures { λ _. ⌜ now (image .exit) ≡ withdrawn grantBytes (now (image .entry)) (to .0) (on .0) (right .0) ⌝ }
+pub fn drop_grants(grants: &mut [u8], to: Item, on: Item, right: Right)
+    requires { ⌜ (length (now grants) ≡ grantCells) × (to .0 < 64) × (on .0 < 64) × (right .0 < 8) ⌝ }
+    ensures { λ _. ⌜ now (grants .exit) ≡ withdrawn grantBytes (now (grants .entry)) (to .0) (on .0) (right .0) ⌝ }
 {
     let at = place(to, on, right);
-    image[at] = 0;
+    grants[at] = 0;
 }
 
 // The item into the live set, with an edit grant of depth 0 to its maker.
-pub fn put_item(image: &mut [u8], by: Item, on: Item)
-    requires { ⌜ (length (now image) ≡ grantCells) × (by .0 < 64) × (on .0 < 64) ⌝ }
-    ensures { λ _. ⌜ now (image .exit) ≡ created grantBytes (now (image .entry)) (by .0) (on .0) ⌝ }
+pub fn put_item(grants: &mut [u8], by: Item, on: Item)
+    requires { ⌜ (length (now grants) ≡ grantCells) × (by .0 < 64) × (on .0 < 64) ⌝ }
+    ensures { λ _. ⌜ now (grants .exit) ≡ created grantBytes (now (grants .entry)) (by .0) (on .0) ⌝ }
 {
-    live::insert(image, on);
-    put_grant(image, by, on, Right::edit(), Depth::zero());
+    live::insert(grants, on);
+    put_grant(grants, by, on, Right::edit(), Depth::zero());
 }
 
 // The item out of the live set, its own block of bytes, then its byte as a person in each row of 64.
-pub fn drop_item(image: &mut [u8], on: Item)
-    requires { ⌜ (length (now image) ≡ grantCells) × (on .0 < 64) ⌝ }
-    ensures { λ _. ⌜ now (image .exit) ≡ deleted grantBytes (now (image .entry)) (on .0) ⌝ }
+pub fn drop_item(grants: &mut [u8], on: Item)
+    requires { ⌜ (length (now grants) ≡ grantCells) × (on .0 < 64) ⌝ }
+    ensures { λ _. ⌜ now (grants .exit) ≡ deleted grantBytes (now (grants .entry)) (on .0) ⌝ }
 {
-    live::remove(image, on);
+    live::remove(grants, on);
     let k = on.number() as usize;
-    bytes::clear_each(image, 8 + 512 * k, 1, 512);
-    bytes::clear_each(image, 8 + k, 64, 512);
+    bytes::clear_each(grants, 8 + 512 * k, 1, 512);
+    bytes::clear_each(grants, 8 + k, 64, 512);
 }

@@ -9,7 +9,7 @@ use borrow.Author.Tests.{eq-eqb, ne-eqb, lt-ltb, le-ltb, ltb-true, ltb-false}
 use lib.ListN.{length, take, drop, getD, set, length-append}
 use lib.Seq.{sets, take-suc, length-take-le, length-sets, sets-eq, take-at}
 use lib.Dec.{ltb, eqb}
-use Rattle.model.proofs.Sets.{by-cases}
+use Rattle.bits.proofs.Sets.{by-cases}
 use Rattle.lines.specs.declared.collect.Partial.{Partial}
 use Rattle.lines.specs.declared.collect.Fed.{Fed}
 use Rattle.lines.specs.Line.{parseLine}

@@ -10,7 +10,7 @@ use lib.Dec.{ltb}
 use borrow.Author.Tests.{lt-ltb, le-ltb, ltb-true, ltb-false}
 use Rattle.lines.specs.Show.{shown, shownIn}
 use Rattle.lines.specs.Line.{valueFrom, valueOf}
-use Rattle.model.proofs.Sets.{by-cases}
+use Rattle.bits.proofs.Sets.{by-cases}
 
 -- any number of steps above n is enough
 enough : (f g n : ℕ) → n < f → n < g → shownIn f n ≡ shownIn g n

@@ -15,7 +15,7 @@ use borrow.Author.Tests.{leb-true, le-leb, lt-leb, eq-eqb, ne-eqb}
 use Rattle.lines.specs.declared.Number.the-variants.{Value, Bad}
 use Rattle.lines.specs.Line.{startsWith, digit, digits, valueFrom, valueOf, decimal, numberAt}
 use Rattle.lines.specs.Reader.{Digits, fieldAt}
-use Rattle.model.proofs.Sets.{by-cases}
+use Rattle.bits.proofs.Sets.{by-cases}
 
 pub drop-next : (s : List ℕ) (i : ℕ) → i < length s → drop i s ≡ getD s i 0 ∷ drop (i + 1) s
 drop-next s i h = rw (add-one i) (drop-cons s i 0 h)

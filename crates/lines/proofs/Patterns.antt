@@ -8,8 +8,8 @@ use borrow.Author.Tests.{leb-true, le-leb, eqb-true, eq-eqb}
 use lib.ListN.{length, drop, getD, length-append, length-drop}
 use lib.Seq.{drop-drop}
 use lib.Dec.{eqb, leb}
-use Rattle.model.specs.Sets.{all}
-use Rattle.model.proofs.Sets.{by-cases, fst, snd, both}
+use Rattle.bits.specs.Sets.{all}
+use Rattle.bits.proofs.Sets.{by-cases, fst, snd, both}
 use Rattle.lines.specs.declared.Number.{Number}
 use Rattle.lines.specs.declared.Number.the-variants.{Value, Bad}
 use Rattle.lines.specs.Show.{shown}

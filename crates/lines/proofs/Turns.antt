@@ -10,7 +10,7 @@ use borrow.Author.Tests.{ltb-true, ltb-false, ne-eqb}
 use lib.ListN.{length, drop, take, getD, set, replicate, length-set}
 use lib.Seq.{take-suc-set, getD-set-other}
 use lib.Dec.{eqb, ltb}
-use Rattle.model.proofs.Sets.{by-cases}
+use Rattle.bits.proofs.Sets.{by-cases}
 use Rattle.lines.specs.declared.Number.the-variants.{Value, Bad}
 use Rattle.lines.specs.declared.Parsed.the-variants.{Malformed}
 use Rattle.lines.specs.Bytes.{bytes}

@@ -8,8 +8,8 @@ use borrow.Author.Tests.{leb-true, le-leb, ltb-true, ltb-false, eqb-true, eqb-fa
 use lib.ListN.{length, drop, getD, length-append, List·getD-append}
 use lib.Seq.{drop-drop, drop-append-seam}
 use lib.Dec.{eqb, leb, ltb}
-use Rattle.model.specs.Sets.{all}
-use Rattle.model.proofs.Sets.{by-cases, fst, snd, both, either}
+use Rattle.bits.specs.Sets.{all}
+use Rattle.bits.proofs.Sets.{by-cases, fst, snd, both, either}
 use Rattle.lines.specs.declared.Number.the-variants.{Value, Bad}
 use Rattle.lines.specs.Show.{shown, shownIn}
 use Rattle.lines.specs.Line.{startsWith, digit, digits, valueFrom, valueOf, decimal, numberAt}

@@ -9,8 +9,8 @@ use lib.Arith.{lt-of-le-ne}
 use borrow.Author.Tests.{leb-true, ltb-true, eqb-true, eqb-false}
 use lib.ListN.{length, getD, List·getD-eq-default}
 use lib.Dec.{eqb, leb, ltb}
-use Rattle.model.specs.Sets.{all, allBelow}
-use Rattle.model.proofs.Sets.{by-cases, fst, snd}
+use Rattle.bits.specs.Sets.{all, allBelow}
+use Rattle.bits.proofs.Sets.{by-cases, fst, snd}
 use Rattle.lines.specs.declared.Parsed.{Parsed}
 use Rattle.lines.specs.declared.Parsed.the-variants.{Malformed}
 use Rattle.lines.specs.Bytes.{bytes}

@@ -7,7 +7,7 @@ use Prim.Native.String.{String}
 use Prim.Native.Nat.{ℕ, zero, suc, _<_}
 use lib.ListN.{length, getD}
 use lib.Dec.{eqb, leb}
-use Rattle.model.specs.Sets.{all}
+use Rattle.bits.specs.Sets.{all}
 use Rattle.model.specs.declared.Command.the-variants.{Create, Delete, Allow, Withdraw, Lend, Recall}
 use Rattle.lines.specs.declared.Parsed.{Parsed}
 use Rattle.lines.specs.declared.Parsed.the-variants.{Run, Ask, Malformed}

@@ -7,13 +7,14 @@ use native.Mathlib.Omega.{arith}
 use borrow.Author.Tests.{eqb-true, eqb-false, ltb-true, ltb-false}
 use lib.ListN.{length, getD}
 use lib.Dec.{eqb, ltb}
-use Rattle.model.specs.Bits.{bit, withoutBit}
-use Rattle.model.specs.Unit.{lists, deleted}
-use Rattle.model.proofs.Sets.{by-cases}
-use Rattle.model.proofs.Bits.{bit-of-zero, bit-without, without-le}
-use Rattle.model.proofs.Sweep.{Swept, Wiped}
-use Rattle.model.proofs.Unit.{lists-laws}
-use Rattle.model.proofs.Edits.{Cells, delete-is}
+use Rattle.bits.specs.Bits.{bit, withoutBit}
+use Rattle.layouts.specs.Layouts.{lists, deleted}
+use Rattle.bits.proofs.Sets.{by-cases}
+use Rattle.bits.proofs.Bits.{bit-of-zero, bit-without, without-le}
+use Rattle.bits.proofs.Sweep.{Swept, Wiped}
+use Rattle.layouts.proofs.Layouts.{lists-laws}
+use Rattle.bits.proofs.Marks.{Cells}
+use Rattle.layouts.proofs.Edits.{delete-is}
 use Rattle.lists.proofs.InOrder.{word-bit}
 
 -- a bit of a word of another item, or of the item itself

@@ -1,5 +1,7 @@
 // The lists unit: access control lists. An image has 513 words: word 0 is the live set, bit i for item i; word 1 + 8 * on + right
 // is the list of item on and that right, bit s for each person s granted it.
+use bits::word;
+use bits::words;
 use model::Answer;
 use model::Checked;
 use model::Command;
@@ -13,23 +15,21 @@ use model::SubjectSet;
 use model::Typed;
 use model::Within;
 use model::judge;
-use model::word;
 ghost use mathlib.Core.Path.{_≡_};
 ghost use Prim.Native.Nat.{_+_, _*_, _%_, _<_};
 ghost use lib.Dec.{eqb};
-ghost use lib.ListN.{length, getD, replicate};
+ghost use lib.ListN.{length, getD};
 ghost use Rattle.model.specs.declared.Command.the-variants.{Create, Delete, Allow, Withdraw};
-ghost use Rattle.model.specs.Sets.{allBelow};
-ghost use Rattle.model.specs.Bits.{withoutBit};
+ghost use Rattle.bits.specs.Sets.{allBelow};
+ghost use Rattle.bits.specs.Bits.{withoutBit, orBelow};
 ghost use Rattle.model.specs.Commands.{Ranged, rawOf};
 ghost use Rattle.model.specs.Answers.{numberOf};
 ghost use Rattle.model.specs.Journal.{grant};
-ghost use Rattle.model.specs.Machine.{Judged, Ran, Offers};
-ghost use Rattle.model.specs.Unit.{lists, listWords, liveIn, held, inOrder, guarded, factsOf, created, deleted, allowed, withdrawn, after, flatUnit, Inspects, Checks, freshImage, Freshens};
-ghost use Rattle.model.specs.Subjects.{Tells};
-ghost use Rattle.model.proofs.Scan.{orBelow};
-ghost use Rattle.model.proofs.Order.{blockOk};
-ghost use Rattle.model.proofs.Sweep.{Swept};
+ghost use Rattle.layouts.specs.Machine.{Judged, Ran, Offers};
+ghost use Rattle.layouts.specs.Layouts.{lists, listWords, liveIn, held, inOrder, guarded, factsOf, created, deleted, allowed, withdrawn, after, flatUnit, Inspects, Checks, freshImage, Freshens};
+ghost use Rattle.layouts.specs.Subjects.{Tells};
+ghost use Rattle.layouts.specs.Order.{blockOk};
+ghost use Rattle.bits.specs.Zeros.{swept};
 
 // The two words of a fresh unit that are not 0: the live set, and the list of the root item's right to edit.
 pub struct Lists {
@@ -48,17 +48,6 @@ impl Lists {
     }
 }
 
-// Every word to 0.
-pub fn clear(words: &mut [u64])
-    ensures { λ _. ⌜ now (words .exit) ≡ replicate (length (now (words .entry))) 0 ⌝ }
-{
-    let mut k: usize = 0;
-    while k < words.len() {
-        words[k] = 0;
-        k += 1;
-    }
-}
-
 // Number 1 alone: whatever the buffer held is overwritten.
 pub fn fresh(image: &mut [u64]) -> Answer
     ensures { λ r. ⌜ Freshens lists (now (image .entry)) r (now (image .exit)) ⌝ }
@@ -67,7 +56,7 @@ pub fn fresh(image: &mut [u64]) -> Answer
         return Answer::WrongLength;
     }
     let start = Lists::fresh();
-    clear(image);
+    words::clear(image);
     image[0] = start.live;
     image[1] = start.edit;
     Answer::Done
@@ -212,7 +201,7 @@ fn put_item(image: &mut [u64], by: Item, on: Item)
 
 // Item i's bit out of every word: the live set's, and its name on each list.
 fn drop_name(image: &mut [u64], i: Item)
-    ensures { λ _. ⌜ Swept (λ k w. withoutBit w (i .0 % 64)) (now (image .entry)) (length (now (image .entry))) (now (image .exit)) ⌝ }
+    ensures { λ _. ⌜ now (image .exit) ≡ swept (λ k w. withoutBit w (i .0 % 64)) (now (image .entry)) ⌝ }
 {
     let mut at: usize = 0;
     while at < image.len() {
@@ -229,7 +218,7 @@ fn drop_item(image: &mut [u64], on: Item)
     drop_name(image, on);
     let at = place(on, Right::edit());
     let end = at + 8;
-    clear(&mut image[at..end]);
+    words::clear(&mut image[at..end]);
 }
 
 // What an accepted command does to lists: its edit alone.

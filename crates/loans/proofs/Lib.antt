@@ -1,3 +1,3 @@
 pub mod Loops
 pub mod Parts
-pub mod Table
+pub mod Standing

@@ -11,13 +11,13 @@ use lib.Seq.{drop-cons, take-suc-set, take-set-le, drop-set-lt, append-snoc, tak
 use lib.Dec.{eqb, ltb}
 use lib.Bits.{bitOr}
 use borrow.Author.Tests.{ltb-true, ltb-false, eq-eqb, ne-eqb, eqb-false, le-ltb}
-use Rattle.model.specs.Sets.{any, all, keep}
-use Rattle.model.specs.Loans.{rising, insert}
-use Rattle.model.proofs.Sets.{by-cases, fst, snd}
-use Rattle.model.proofs.Scan.{or-zero}
-use Rattle.model.proofs.Indexed.{keep-next}
+use Rattle.bits.specs.Sets.{any, all, keep}
+use Rattle.delegation.specs.Loans.{rising, insert}
+use Rattle.bits.proofs.Sets.{by-cases, fst, snd}
+use Rattle.bits.proofs.Scan.{or-zero}
+use Rattle.bits.proofs.Indexed.{keep-next}
 use borrow.Rule.Slice.PartMut.{putMid}
-use Rattle.loans.specs.Table.{unmasked}
+use Rattle.loans.specs.Words.{unmasked}
 
 -- ---- the flags of a word
 pub high-zero : (w : ℕ) → eqb (w / 16777216) 0 ≡ ltb w 16777216
@@ -73,15 +73,15 @@ pub rank-end : (p : ℕ → Bool) (s : List ℕ) (n i : ℕ) → length s ≤ i 
 unfolding keep
 rank-end p s n i l e = sym (e ∙ rw (drop-of-length-le s {i = i} l) (add-zero n))
 
--- code and old are the i words written, the one held, and the rest
-pub record Pushed (old : List ℕ) (code : ℕ) (s : List ℕ) (hold i : ℕ) : Type 0 where
+-- word and old are the i words written, the one held, and the rest
+pub record Pushed (old : List ℕ) (word : ℕ) (s : List ℕ) (hold i : ℕ) : Type 0 where
   pub within : i ≤ length old
   pub long : length s ≡ length old
-  pub whole : code ∷ old ≡ take i s ++ (hold ∷ drop i s)
+  pub whole : word ∷ old ≡ take i s ++ (hold ∷ drop i s)
 
-pub push-more : (old : List ℕ) (code : ℕ) (s : List ℕ) (hold i : ℕ) → Pushed old code s hold i → i < length old
-    → Pushed old code (set s i hold) (getD s i 0) (i + 1)
-push-more old code s hold i k h =
+pub push-more : (old : List ℕ) (word : ℕ) (s : List ℕ) (hold i : ℕ) → Pushed old word s hold i → i < length old
+    → Pushed old word (set s i hold) (getD s i 0) (i + 1)
+push-more old word s hold i k h =
     let l : i < length s = omega (arith, k .long) in
     record {
       within = omega arith;
@@ -91,8 +91,8 @@ push-more old code s hold i k h =
           (sym (append-snoc (take i s) hold (getD s i 0 ∷ drop (suc i) s)));
     }
 
-pub push-end : (old : List ℕ) (code : ℕ) (s : List ℕ) (hold i : ℕ) → Pushed old code s hold i → length old ≤ i → s ++ (hold ∷ []) ≡ code ∷ old
-push-end old code s hold i k h =
+pub push-end : (old : List ℕ) (word : ℕ) (s : List ℕ) (hold i : ℕ) → Pushed old word s hold i → length old ≤ i → s ++ (hold ∷ []) ≡ word ∷ old
+push-end old word s hold i k h =
     sym (k .whole ∙ rw (drop-of-length-le s {i = i} (omega (arith, k .long)), take-all i s (omega (arith, k .long))))
 
 -- ---- the words that stay, moved down: those of old are the place words written, then those that stay of the rest

@@ -10,13 +10,13 @@ use lib.Seq.{append-snoc, take-all, take-length, drop-length, length-take-le, ta
 use borrow.Rule.Slice.PartMut.{putMid}
 use lib.Dec.{eqb, leb}
 use borrow.Author.Tests.{le-leb, leb-true, leb-false, eq-eqb}
-use Rattle.model.specs.Sets.{any, all}
+use Rattle.bits.specs.Sets.{any, all}
 use Rattle.model.specs.Commands.{mostLoans}
-use Rattle.model.specs.Loans.{lender, loanItem, borrower, rising, insert, tableWords, headerWord, recounted, headerIn, countOf, used, loansImage, loansWith, wordGood, loansInOrder}
-use Rattle.model.specs.declared.loan.Header.{Header}
-use Rattle.model.proofs.Sets.{by-cases, all-and}
-use Rattle.model.proofs.Rising.{insert-present}
-use Rattle.loans.specs.Table.{shaped, namesLive, Ordered}
+use Rattle.delegation.specs.Loans.{lender, loanItem, borrower, rising, insert, loanWords, headerWord, recounted, headerIn, countOf, used, loansImage, loansWith, wordGood, loansInOrder}
+use Rattle.delegation.specs.declared.loan.Header.{Header}
+use Rattle.bits.proofs.Sets.{by-cases, all-and}
+use Rattle.delegation.proofs.Rising.{insert-present}
+use Rattle.loans.specs.Words.{shaped, namesLive, Ordered}
 
 pub length-used : (t : List ℕ) → length (used t) ≡ min (countOf t) (length t - 1)
 unfolding used
@@ -35,7 +35,7 @@ module _ (t : List ℕ) (n : ℕ) (e : n ≡ min (countOf t) (length t - 1)) whe
   used-none z = sym part-used ∙ rw z
 
 -- the words after the first m zeroed, and the header put
-pub cut-off : (h : Header) (t last : List ℕ) (m v : ℕ) → length t ≡ tableWords → m ≤ mostLoans
+pub cut-off : (h : Header) (t last : List ℕ) (m v : ℕ) → length t ≡ loanWords → m ≤ mostLoans
     → last ≡ replicate (length (take (length t - (m + 1)) (drop (m + 1) t))) 0 → v ≡ headerWord (recounted h m)
     → set (putMid (m + 1) (length t - (m + 1)) t last) 0 v ≡ loansImage h (take m (drop 1 t))
 unfolding loansImage
@@ -75,20 +75,20 @@ pub room : (n : ℕ) (b : Bool) → leb mostLoans n && not b ≡ false → b ≡
 room n b e f = leb-false mostLoans n (sym (and-true (leb mostLoans n)) ∙ ap (λ x. leb mostLoans n && not x) (sym f) ∙ e)
 
 module _ (t : List ℕ) (o : Ordered t) where
-  pub standing : (code : ℕ) → any (eqb code) (used t) ≡ true → t ≡ loansWith code t
-  standing code h = o .whole ∙ ap (loansImage (headerIn t)) (sym (insert-present code (used t) (o .rises) h))
+  pub standing : (word : ℕ) → any (eqb word) (used t) ≡ true → t ≡ loansWith word t
+  standing word h = o .whole ∙ ap (loansImage (headerIn t)) (sym (insert-present word (used t) (o .rises) h))
 
-  pub added : (part : List ℕ) (code n last v : ℕ) → n ≡ min (countOf t) (length t - 1) → countOf t < mostLoans
-      → length part ≡ length (take (n + 1 - 1) (drop 1 t)) → part ++ (last ∷ []) ≡ insert code (take (n + 1 - 1) (drop 1 t))
+  pub added : (part : List ℕ) (word n last v : ℕ) → n ≡ min (countOf t) (length t - 1) → countOf t < mostLoans
+      → length part ≡ length (take (n + 1 - 1) (drop 1 t)) → part ++ (last ∷ []) ≡ insert word (take (n + 1 - 1) (drop 1 t))
       → v ≡ headerWord (recounted (headerIn t) (n + 1))
-      → set (set (putMid 1 (n + 1 - 1) t part) (n + 1) last) 0 v ≡ loansWith code t
-  added part code n last v e room lp ep ev =
+      → set (set (putMid 1 (n + 1 - 1) t part) (n + 1) last) 0 v ≡ loansWith word t
+  added part word n last v e room lp ep ev =
       let ls : length (used t) ≡ n = length-used t ∙ sym e in
       let u = part-used t n e in
       let k : n + 1 - 1 ≡ length (used t) = omega arith in
       let l : length part ≡ n = lp ∙ rw u ls in
       let w = o .whole ∙ image-room (headerIn t) (used t) n ls (omega (arith, o .long)) in
-      let q : part ++ (last ∷ []) ≡ insert code (used t) = ep ∙ rw u in
+      let q : part ++ (last ∷ []) ≡ insert word (used t) = ep ∙ rw u in
       put-word t part (used t) (replicate (mostLoans - suc n) 0) _ n (n + 1 - 1) last v w k l
       ∙ sym (ap (loansImage (headerIn t)) (sym q) ∙ image-snoc (headerIn t) part last n l ∙ rw ev)
 
@@ -98,8 +98,8 @@ good-split live w =
     ap (λ b. b && live (borrower w)) (and-assoc (shaped w) (live (lender w)) (live (loanItem w)))
     ∙ and-assoc (shaped w) (live (lender w) && live (loanItem w)) (live (borrower w))
 
-pub order-parts : (live : ℕ → Bool) (t : List ℕ) (n : ℕ) → length t ≡ tableWords → countOf t ≤ mostLoans → n ≡ min (countOf t) (length t - 1)
-    → eqb (length t) tableWords && loansInOrder live t
+pub order-parts : (live : ℕ → Bool) (t : List ℕ) (n : ℕ) → length t ≡ loanWords → countOf t ≤ mostLoans → n ≡ min (countOf t) (length t - 1)
+    → eqb (length t) loanWords && loansInOrder live t
     ≡ rising (take (n + 1 - 1) (drop 1 t)) && all shaped (take (n + 1 - 1) (drop 1 t)) && all (namesLive live) (take (n + 1 - 1) (drop 1 t))
     && all (eqb 0) (take (length t - (n + 1)) (drop (n + 1) t))
 unfolding loansInOrder
@@ -108,5 +108,5 @@ order-parts live t n l few e =
     let q : n + 1 ≡ suc (countOf t) = omega arith in
     let g : all (wordGood live) (used t) ≡ all shaped (used t) && all (namesLive live) (used t)
     = (λ j. all (λ w. good-split live w j) (used t)) ∙ all-and shaped (namesLive live) (used t) in
-    rw (eq-eqb (length t) tableWords l, le-leb (countOf t) mostLoans few, part-used t n e, z, q, g)
+    rw (eq-eqb (length t) loanWords l, le-leb (countOf t) mostLoans few, part-used t n e, z, q, g)
     (ap (λ b. b && all (eqb 0) (drop (suc (countOf t)) t)) (sym (and-assoc (rising (used t)) (all shaped (used t)) (all (namesLive live) (used t)))))

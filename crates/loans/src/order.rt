@@ -1,13 +1,13 @@
 // Whether a loan table is in order. Each loop ORs flags that are 0 where a word passes, and the sum is tested once.
 use crate::Loans;
-use model::loan;
+use delegation::loan;
 ghost use mathlib.Core.Path.{_≡_};
 ghost use mathlib.Core.Bool.{_&&_};
 ghost use lib.ListN.{length};
 ghost use lib.Dec.{eqb, ltb};
-ghost use Rattle.model.specs.Sets.{all};
-ghost use Rattle.model.specs.Loans.{rising, tableWords, loansInOrder};
-ghost use Rattle.loans.specs.Table.{unmasked, shaped, namesLive};
+ghost use Rattle.bits.specs.Sets.{all};
+ghost use Rattle.delegation.specs.Loans.{rising, loanWords, loansInOrder};
+ghost use Rattle.loans.specs.Words.{unmasked, shaped, namesLive};
 
 fn rise_flag(a: u32, b: u32) -> u32
     ensures { λ r. ⌜ eqb r 0 ≡ ltb a b ⌝ }
@@ -92,7 +92,7 @@ fn are_zero(s: &[u32]) -> bool
 // Whether the slice is a table in order, by a mask of the living items: 0 where one lives, 255 where not.
 pub fn in_order(loans: &[u32], masks: &[u8; 64]) -> bool
     ensures { λ r. ⌜ r
-        ≡ eqb (length (now (loans .entry))) tableWords && loansInOrder (unmasked (now (masks .entry))) (now (loans .entry)) ⌝ }
+        ≡ eqb (length (now (loans .entry))) loanWords && loansInOrder (unmasked (now (masks .entry))) (now (loans .entry)) ⌝ }
 {
     if loans.len() != Loans::WORDS {
         return false;

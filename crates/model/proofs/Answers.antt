@@ -2,20 +2,19 @@
 -- one that names the number, and the case besides.
 use mathlib.Core.Path.{_≡_, refl, sym, ap, _∙_}
 use mathlib.Core.Bool.{Bool, true, false, not, _&&_, cond}
-use Prim.Native.Nat.{ℕ, zero, suc, _+_, _≤_}
+use Prim.Native.Nat.{ℕ, zero, suc, _-_}
 use native.Mathlib.Omega.{arith}
-use borrow.Author.Tests.{eq-eqb, ne-eqb}
+use borrow.Author.Tests.{ne-eqb}
 use lib.Dec.{eqb}
 use Rattle.model.specs.declared.Facts.{Facts}
 use Rattle.model.specs.declared.Arguments.{Arguments}
 use Rattle.model.specs.declared.Answer.{Answer}
 use Rattle.model.specs.declared.Answer.the-variants as is
-use Rattle.model.specs.declared.Checked.{Checked}
 use Rattle.model.specs.declared.Checked.the-variants as checked
-use Rattle.model.specs.declared.ChainChecked.{ChainChecked}
 use Rattle.model.specs.declared.ChainChecked.the-variants as chain
-use Rattle.model.specs.Answers.{numberOf, answerFor, Numbered, checkedNumber, checkedYes, checkedOf, Found, nothing, chainNumber, foundIn, foundSaid, chainCheckedOf, table, answer, asked, knows}
+use Rattle.model.specs.Answers.{answer, numberOf, answerFor, Numbered, checkedNumber, checkedYes, checkedOf, Found, nothing, chainNumber, foundIn, foundSaid, chainCheckedOf, table, asked, knows}
 use Rattle.model.specs.Commands.{fits, items, rightDepth}
+use Rattle.bits.proofs.Sets.{by-cases}
 
 pub answer-for : (a : Answer) → answerFor (numberOf a) ≡ a
 unfolding answerFor
@@ -46,7 +45,7 @@ pub record Known (n : ℕ) : Type 0 where
 pub number-for : (n : ℕ) → Known n → numberOf (answerFor n) ≡ n
 number-for n k = ap numberOf (sym (answer-is (k .answer) n (k .number))) ∙ k .number
 
-known-row : (b : Bool) (n m : ℕ) → Known n → Known m → Known (cond b n m)
+pub known-row : (b : Bool) (n m : ℕ) → Known n → Known m → Known (cond b n m)
 known-row true n m h k = h
 known-row false n m h k = k
 
@@ -66,12 +65,6 @@ answer-known f a = known-row (not (fits a)) 3 _ (record { answer = is.OutOfRange
 
 pub asked-known : (p o r : ℕ) → Known (asked p o r)
 asked-known p o r = known-row (not (items p o && rightDepth r 0)) 3 0 (record { answer = is.OutOfRange; number = refl }) (record { answer = is.Done; number = refl })
-
--- numbers 1 and 2 before another
-pub guards-known : (a b : Bool) (n : ℕ) → Known n → Known (cond (not a) 1 (cond (not b) 2 n))
-guards-known a b n k =
-    known-row (not a) 1 _ (record { answer = is.WrongLength; number = refl })
-    (known-row (not b) 2 _ (record { answer = is.NotInOrder; number = refl }) k)
 
 -- ---- checks
 -- a refusal
@@ -114,3 +107,8 @@ found-said f h = go (f .yes) refl
         let k : _≡_ {A = Found} (record { yes = true; depth = f .depth; persons = f .persons }) (record { yes = f .yes; depth = f .depth; persons = f .persons }) = rw e in
         k
     go false e = sym (h e)
+
+-- answers that rest on equal facts are equal; only lend asks whether the loans are full
+pub table-same : (f g : Facts) → f .by ≡ g .by → f .on ≡ g .on → f .to ≡ g .to → f .edits ≡ g .edits
+    → (a : Arguments) → (knows (a .verb) 10 ≡ true → f .full ≡ g .full) → table f a ≡ table g a
+table-same f g x y z w a h = by-cases (knows (a .verb) 10) (λ l. rw (x, y, z, w, h l)) (λ l. rw (x, y, z, w, l))

@@ -1,19 +1,21 @@
--- What every journal keeps: item 0 lives, and each grant is within the limits and names living items.
+-- What every journal keeps: item 0 lives, each grant and each loan is within the limits and names living items, and at most 1,024 loans
+-- stand, each once.
 use mathlib.Core.Path.{_≡_, refl, sym, ap, _∙_}
 use mathlib.Core.Bool.{Bool, true, false, not, _&&_, _||_, cond, false≢true}
-use Prim.Native.Nat.{ℕ, suc, _≤_}
+use Prim.Native.Nat.{ℕ, suc, _≤_, _-_}
 use native.Mathlib.Omega.{arith}
-use borrow.Author.Tests.{eqb-true, eq-eqb, leb-true}
-use lib.Dec.{eqb}
-use Rattle.model.specs.Sets.{any, all}
-use Rattle.model.specs.Commands.{items, rightDepth, fits, argumentsOf}
+use borrow.Author.Tests.{eqb-true, eq-eqb, leb-true, leb-false, not-true}
+use lib.Dec.{eqb, leb}
+use Rattle.bits.specs.Sets.{any, all, keep, add}
+use Rattle.model.specs.Commands.{items, rightDepth, fits}
 use Rattle.model.specs.Answers.{answer, asked, knows}
-use Rattle.model.specs.Journal.{Grant, Loan, Journal, grant, loan, sameGrant, sameLoan, isTo, names, lives, facts, answered, fresh, apply, step}
-use Rattle.model.proofs.Sets.{iff, fst, snd, both, or-left, or-right, all-mono, any-kept, all-keep, any-add, all-add, all-true}
-use Rattle.model.specs.declared.Command.{Command}
-use Rattle.model.specs.declared.Command.the-variants.{Create, Delete, Allow, Withdraw, Lend, Recall}
+use Rattle.model.specs.Journal.{Grant, Loan, Journal, grant, loan, sameGrant, sameLoan, isTo, lives, fresh, apply, hasGrant}
+use Rattle.bits.proofs.Sets.{iff, fst, snd, both, all-mono, any-kept, all-keep, any-add, all-true, by-cases, find}
+use Rattle.model.specs.declared.Command.the-variants.{Create, Delete}
 use Rattle.model.specs.declared.Arguments.{Arguments}
 use Rattle.model.specs.declared.Facts.{Facts}
+use mathlib.Core.List.{List, [], _∷_}
+use lib.ListN.{length}
 
 pub eqb-sym : (a b : ℕ) → eqb a b ≡ eqb b a
 eqb-sym a b = iff (eqb a b) (eqb b a) (λ e. eq-eqb b a (sym (eqb-true a b e))) (λ e. eq-eqb a b (sym (eqb-true b a e)))
@@ -67,16 +69,6 @@ asked-in p o r e = passed 2 (items p o && rightDepth r 0) 0 e .0
 pub asked-limits : (p o r : ℕ) → asked p o r ≡ 0 → (p ≤ 63) × (o ≤ 63) × (r ≤ 7)
 asked-limits p o r e = let h = asked-in p o r e in search (fst, snd, leb-true)
 
--- numbers 1 and 2 are the same whatever comes after them
-unfoldable pub guards : Bool → Bool → ℕ → ℕ
-guards a b n = cond (not a) 1 (cond (not b) 2 n)
-
-pub guards-off : (a b : Bool) (n : ℕ) → (guards a b 0 ≡ 0 → ⊥) → guards a b 0 ≡ guards a b n
-unfolding guards
-guards-off true true n h = absurd (h refl)
-guards-off true false n h = refl
-guards-off false b n h = refl
-
 -- the rows that did not apply
 pub record Accepted (f : Facts) (a : Arguments) : Type 0 where
   pub fits : fits a ≡ true
@@ -117,6 +109,9 @@ lives-delete j by on i =
 abbrev pub ranged : Grant → Bool
 ranged g = items (g .person) (g .item) && rightDepth (g .right) (g .depth)
 
+abbrev pub rangedLoan : Loan → Bool
+rangedLoan l = items (l .lender) (l .borrower) && items (l .borrower) (l .item) && rightDepth (l .right) (l .depth)
+
 abbrev pub sound : (ℕ → Bool) → Grant → Bool
 sound f g = ranged g && (f (g .person) && f (g .item))
 
@@ -131,3 +126,92 @@ inv-fresh = record { root = refl; grants-sound = refl }
 -- a larger live set
 pub grow : (f f′ : ℕ → Bool) → ((i : ℕ) → f i ≡ true → f′ i ≡ true) → (g : Grant) → sound f g ≡ true → sound f′ g ≡ true
 grow f f′ e g h = search (fst, snd, both)
+
+pub to-parts : (p o r : ℕ) (g : Grant) → isTo p o r g ≡ true → (g .person ≡ p) × (g .item ≡ o) × (g .right ≡ r)
+to-parts p o r g e = search (fst, snd, eqb-true)
+
+-- no grant stands beyond the limits
+pub beyond-none : (j : Journal) → Inv j → (p o r : ℕ) → items p o && rightDepth r 0 ≡ false → hasGrant j p o r ≡ false
+beyond-none j v p o r h =
+    by-cases (hasGrant j p o r)
+    (λ t. let f = find (isTo p o r) (sound (lives j)) (j .grants) (v .grants-sound) t in
+    let s : sound (lives j) (f .0) ≡ true = f .1 in
+    let q = to-parts p o r (f .0) (f .2) in
+    let b : items (f .0 .person) (f .0 .item) && rightDepth (f .0 .right) 0 ≡ true = search (fst, snd, both) in
+    let c : items p o && rightDepth r 0 ≡ true = rw (q .0, q .1, q .2) at b in
+    absurd (false≢true (sym h ∙ c)))
+    (λ t. t)
+
+unfoldable pub distinct : List Loan → Bool
+distinct [] = true
+distinct (l ∷ ls) = not (any (sameLoan l) ls) && distinct ls
+
+-- ---- what every journal keeps of its loans
+abbrev pub soundLoan : (ℕ → Bool) → Loan → Bool
+soundLoan f l = rangedLoan l && not (eqb (l .right) 0) && (f (l .lender) && f (l .item) && f (l .borrower))
+
+pub record LoanInv (j : Journal) : Type 0 where
+  pub loans-sound : all (soundLoan (lives j)) (j .loans) ≡ true
+  pub loans-distinct : distinct (j .loans) ≡ true
+  pub loans-few : length (j .loans) ≤ 1024
+
+pub loans-ranged : (j : Journal) → LoanInv j → all rangedLoan (j .loans) ≡ true
+loans-ranged j v = all-mono (soundLoan (lives j)) rangedLoan (j .loans) (v .loans-sound) (λ l h. search (fst, snd))
+
+pub loans-fresh : LoanInv fresh
+unfolding fresh all distinct
+loans-fresh = record { loans-sound = refl; loans-distinct = refl; loans-few = omega arith }
+
+pub distinct-add : (l : Loan) (ls : List Loan) → distinct ls ≡ true → distinct (add sameLoan l ls) ≡ true
+unfolding add distinct
+distinct-add l ls d = go (any (sameLoan l) ls) refl
+  where
+    go : (b : Bool) → any (sameLoan l) ls ≡ b → distinct (cond b ls (l ∷ ls)) ≡ true
+    go true e = d
+    go false e = both (ap not e) d
+
+any-less : (p f : Loan → Bool) (ls : List Loan) → any p ls ≡ false → any p (keep f ls) ≡ false
+unfolding any keep
+any-less p f [] h = refl
+any-less p f (l ∷ ls) h = go (f l) (p l) refl h (any-less p f ls)
+  where
+    go : (b c : Bool) → p l ≡ c → c || any p ls ≡ false → (any p ls ≡ false → any p (keep f ls) ≡ false)
+        → any p (cond b (l ∷ keep f ls) (keep f ls)) ≡ false
+    go b true e h k = absurd (false≢true (sym h))
+    go true false e h k = rw e (k h)
+    go false false e h k = k h
+
+distinct-keep : (f : Loan → Bool) (ls : List Loan) → distinct ls ≡ true → distinct (keep f ls) ≡ true
+unfolding keep distinct
+distinct-keep f [] d = refl
+distinct-keep f (l ∷ ls) d = go (f l) (distinct-keep f ls (snd (not (any (sameLoan l) ls)) (distinct ls) d))
+  where
+    go : (b : Bool) → distinct (keep f ls) ≡ true → distinct (cond b (l ∷ keep f ls) (keep f ls)) ≡ true
+    go true k = both (ap not (any-less (sameLoan l) f ls (not-true _ (fst (not (any (sameLoan l) ls)) (distinct ls) d)))) k
+    go false k = k
+
+length-keep : (f : Loan → Bool) (ls : List Loan) → length (keep f ls) ≤ length ls
+unfolding keep
+length-keep f [] = omega arith
+length-keep f (l ∷ ls) = go (f l) (length-keep f ls)
+  where
+    go : (b : Bool) → length (keep f ls) ≤ length ls → length (cond b (l ∷ keep f ls) (keep f ls)) ≤ suc (length ls)
+    go true k = omega arith
+    go false k = omega arith
+
+pub keep-loans : (j : Journal) (f : Loan → Bool) → LoanInv j
+    → (all (λ l. soundLoan (lives j) l && f l) (keep f (j .loans)) ≡ true) × (distinct (keep f (j .loans)) ≡ true) × (length (keep f (j .loans)) ≤ 1024)
+keep-loans j f v = (all-keep (soundLoan (lives j)) f (j .loans) (v .loans-sound), distinct-keep f (j .loans) (v .loans-distinct), omega (arith, length-keep f (j .loans), v .loans-few))
+
+-- one more fits where fewer than 1,024 stand
+pub few-add : (l : Loan) (ls : List Loan) → length ls ≤ 1024 → leb 1024 (length ls) && not (any (sameLoan l) ls) ≡ false → length (add sameLoan l ls) ≤ 1024
+unfolding add
+few-add l ls h e = go (any (sameLoan l) ls) (leb 1024 (length ls)) refl e
+  where
+    go : (b c : Bool) → leb 1024 (length ls) ≡ c → c && not b ≡ false → length (cond b ls (l ∷ ls)) ≤ 1024
+    go true c q e = h
+    go false true q e = absurd (false≢true (sym e))
+    go false false q e = leb-false 1024 (length ls) q
+
+pub grow-loan : (f f′ : ℕ → Bool) (l : Loan) → ((i : ℕ) → f i ≡ true → f′ i ≡ true) → soundLoan f l ≡ true → soundLoan f′ l ≡ true
+grow-loan f f′ l e h = search (fst, snd, both)

@@ -1,29 +1,19 @@
--- Each command, case by case: what the journal keeps, and what the images do as the journal does. Whoever adds a command adds its
--- clauses here; all other laws follow from these.
-use mathlib.Core.Path.{_≡_, refl, sym, ap, ap₂, _∙_}
+-- Each command, case by case: what the journal keeps. Whoever adds a command adds its clauses here, and in the files of this name of
+-- layouts and delegation, which say what the images do.
+use mathlib.Core.Path.{_≡_, refl, ap, _∙_}
 use mathlib.Core.Bool.{Bool, true, false, not, _&&_, _||_, cond, false≢true}
 use mathlib.Core.List.{List, [], _∷_}
-use Prim.Native.Nat.{ℕ, _≤_}
-use native.Mathlib.Omega.{arith}
+use Prim.Native.Nat.{ℕ}
 use borrow.Author.Tests.{eqb-true, eq-eqb}
-use lib.ListN.{length}
 use lib.Dec.{eqb}
 use Rattle.model.specs.declared.Command.{Command}
 use Rattle.model.specs.declared.Command.the-variants.{Create, Delete, Allow, Withdraw, Lend, Recall}
-use Rattle.model.specs.declared.loan.Header.{Header}
-use Rattle.model.specs.Sets.{keep, add}
-use Rattle.model.specs.Commands.{items, rightDepth, argumentsOf, mostLoans}
+use Rattle.bits.specs.Sets.{keep, add}
+use Rattle.model.specs.Commands.{items, rightDepth, argumentsOf, fits}
 use Rattle.model.specs.Answers.{knows, flat}
-use Rattle.model.specs.Machine.{stepOf}
-use Rattle.model.specs.Journal.{Loan, Journal, grant, loan, sameGrant, sameLoan, isTo, names, loanNames, lives, facts, answered, fresh, apply, step, run}
-use Rattle.model.specs.Unit.{Layout, grantBytes, after, flatUnit}
-use Rattle.model.specs.Loans.{wordOf, wordNames, freshHeader, loansImage}
-use Rattle.model.specs.Images.{Images, images}
-use Rattle.model.specs.ChainUnit.{chainAfter}
-use Rattle.model.proofs.Sets.{fst, snd, both, or-left, or-right, all-mono, all-keep, all-add}
-use Rattle.model.proofs.Invariant.{eqb-sym, neither, accepted, both-live, lives-create, lives-delete, ranged, sound, Inv, inv-fresh, grow}
-use Rattle.model.proofs.Unit.{Laws, imageOf, bytes-laws, rangedLoan, answer-of, created-of, deleted-of, allowed-of, withdrawn-of, same-image}
-use Rattle.model.proofs.Loans.{word-names, word-same, sorted, keep-sorted, sorted-add, length-sorted, kept-of, with-of, soundLoan, LoanInv, loans-ranged, loans-fresh, keep-loans, few-add, grow-loan, distinct-add}
+use Rattle.model.specs.Journal.{Journal, grant, loan, sameGrant, sameLoan, isTo, names, loanNames, lives, facts, answered, fresh, apply, step, run}
+use Rattle.bits.proofs.Sets.{fst, snd, both, or-left, or-right, all-mono, all-keep, all-add}
+use Rattle.model.proofs.Invariant.{eqb-sym, neither, accepted, both-live, lives-create, lives-delete, ranged, sound, Inv, inv-fresh, grow, rangedLoan, soundLoan, LoanInv, loans-fresh, keep-loans, few-add, grow-loan, distinct-add}
 
 -- ---- what every journal keeps of its live items and grants
 inv-apply : (j : Journal) (c : Command) → Inv j → answered j c ≡ 0 → Inv (apply j c)
@@ -154,68 +144,6 @@ flat-lends (Allow by to on right depth) h = refl
 flat-lends (Withdraw by to on right) h = refl
 flat-lends (Lend by to on right depth) h = absurd (false≢true h)
 flat-lends (Recall by to on right depth) h = refl
-
-module _ (L : Layout) (W : Laws L) where
-  after-of : (j : Journal) → Inv j → (c : Command) → flat c ≡ true → after L (imageOf L W j) (argumentsOf c) ≡ imageOf L W (apply j c)
-  after-of j v (Create by on) h = created-of L W j v by on
-  after-of j v (Delete by on) h = deleted-of L W j v by on
-  after-of j v (Allow by to on right depth) h = allowed-of L W j v by to on right depth
-  after-of j v (Withdraw by to on right) h = withdrawn-of L W j v by to on right
-  after-of j v (Lend by to on right depth) h = absurd (false≢true h)
-  after-of j v (Recall by to on right depth) h = absurd (false≢true h)
-
-  pub step-of : (j : Journal) → Inv j → (c : Command) → flat c ≡ true → stepOf (flatUnit L) (imageOf L W j) c ≡ imageOf L W (step j c)
-  step-of j v c h = rw (answer-of L W j v c (flat-lends c h)) (go (eqb (answered j c) 0))
-    where
-      go : (b : Bool) → cond b (after L (imageOf L W j) (argumentsOf c)) (imageOf L W j) ≡ imageOf L W (cond b (apply j c) j)
-      go true = after-of j v c h
-      go false = refl
-
--- ---- the chain unit
-abbrev pub grantsOf : Journal → List ℕ
-grantsOf j = imageOf grantBytes bytes-laws j
-
--- what the table's header says of a journal beside the number of its loans
-abbrev pub headerFor : Journal → Header
-headerFor j = freshHeader
-
-abbrev loansOf : Journal → List Loan → List ℕ
-loansOf j ls = loansImage (headerFor j) (sorted ls)
-
--- the images of a journal
-abbrev pub imagesOf : Journal → Images
-imagesOf j = record { grants = grantsOf j; loans = loansOf j (j .loans) }
-
-pub few : (j : Journal) → LoanInv j → length (sorted (j .loans)) ≡ length (j .loans)
-few j v = length-sorted (j .loans) (loans-ranged j v) (v .loans-distinct)
-
-pub few-sorted : (j : Journal) → LoanInv j → length (sorted (j .loans)) ≤ mostLoans
-few-sorted j v = omega (arith, few j v, v .loans-few)
-
-pub chain-after : (j : Journal) → Kept j → (c : Command) → answered j c ≡ 0 → chainAfter (imagesOf j) (argumentsOf c) ≡ imagesOf (apply j c)
-chain-after j v (Create by on) e = ap (λ g. images g (loansOf j (j .loans))) (created-of grantBytes bytes-laws j (v .inv) by on)
-chain-after j v (Delete by on) e =
-    ap₂ images (deleted-of grantBytes bytes-laws j (v .inv) by on)
-    (kept-of (headerFor j) (sorted (j .loans)) (few-sorted j (v .loan-inv)) (λ w. not (wordNames on w))
-    ∙ ap (loansImage (headerFor j))
-    (keep-sorted (λ l. not (loanNames on l)) (λ w. not (wordNames on w)) rangedLoan (j .loans) (loans-ranged j (v .loan-inv)) (λ l h. ap not (word-names on l h))))
-chain-after j v (Allow by to on right depth) e =
-    ap (λ g. images g (loansOf j (j .loans))) (allowed-of grantBytes bytes-laws j (v .inv) by to on right depth)
-chain-after j v (Withdraw by to on right) e =
-    ap (λ g. images g (loansOf j (j .loans))) (withdrawn-of grantBytes bytes-laws j (v .inv) by to on right)
-chain-after j v (Lend by to on right depth) e =
-    let a = argumentsOf (Lend by to on right depth) in
-    ap₂ images (same-image grantBytes bytes-laws j (apply j (Lend by to on right depth)) refl refl)
-    (with-of (headerFor j) (sorted (j .loans)) (few-sorted j (v .loan-inv)) (wordOf (loan by on right to depth))
-    ∙ ap (loansImage (headerFor j)) (sym (sorted-add (loan by on right to depth) (j .loans) (accepted (facts j a) a e .fits) (loans-ranged j (v .loan-inv)))))
-chain-after j v (Recall by to on right depth) e =
-    let a = argumentsOf (Recall by to on right depth) in
-    let l = loan by on right to depth in
-    ap₂ images (same-image grantBytes bytes-laws j (apply j (Recall by to on right depth)) refl refl)
-    (kept-of (headerFor j) (sorted (j .loans)) (few-sorted j (v .loan-inv)) (λ w. not (eqb (wordOf l) w))
-    ∙ ap (loansImage (headerFor j))
-    (keep-sorted (λ m. not (sameLoan l m)) (λ w. not (eqb (wordOf l) w)) rangedLoan (j .loans)
-    (loans-ranged j (v .loan-inv)) (λ m h. ap not (word-same l m (accepted (facts j a) a e .fits) h))))
 
 -- ---- the whole journal j and one that is fed only what lists and rows have, k: alike in live items and grants
 pub record Alike (j k : Journal) : Type 0 where

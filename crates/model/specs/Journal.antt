@@ -10,7 +10,7 @@ use Rattle.model.specs.declared.Command.{Command}
 use Rattle.model.specs.declared.Command.the-variants.{Create, Delete, Allow, Withdraw, Lend, Recall}
 use Rattle.model.specs.declared.Arguments.{Arguments}
 use Rattle.model.specs.declared.Facts.{Facts}
-use Rattle.model.specs.Sets.{any, keep, add}
+use Rattle.bits.specs.Sets.{any, keep, add}
 use Rattle.model.specs.Commands.{argumentsOf, mostLoans}
 use Rattle.model.specs.Answers.{answer}
 

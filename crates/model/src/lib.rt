@@ -1,13 +1,8 @@
 // Items, rights and depths, the commands that carry them, and the one table of refusals.
 ghost use mathlib.Core.Path.{_≡_};
+ghost use Prim.Native.Nat.{_%_};
 ghost use Rattle.model.specs.Commands.{items, rightDepth, arguments, argumentsOf, fits, typedOf, withinOf, rawOf, questionOf, depthOf};
 ghost use Rattle.model.specs.Answers.{numberOf, answerFor, checkedOf, flatEdit, flat, knows, table, _when_else_};
-
-pub mod byte;
-pub mod bytes;
-pub mod live;
-pub mod loan;
-pub mod word;
 
 // An item number, 0 to 63.
 pub struct Item(u32);
@@ -20,6 +15,13 @@ pub struct Depth(u32);
 
 impl Item {
     pub const MAX: u32 = 63;
+
+    // The one in the lowest bits of n, where a word holds it: n cut to its width.
+    pub fn cut(n: u32) -> Item
+        ensures { λ r. ⌜ r .0 ≡ n % 64 ⌝ }
+    {
+        Item(n % 64)
+    }
 
     // Item 0 (document 01's 'the house').
     pub fn root() -> Item
@@ -38,6 +40,13 @@ impl Item {
 impl Right {
     pub const MAX: u32 = 7;
 
+    // The one in the lowest bits of n, where a word holds it: n cut to its width.
+    pub fn cut(n: u32) -> Right
+        ensures { λ r. ⌜ r .0 ≡ n % 8 ⌝ }
+    {
+        Right(n % 8)
+    }
+
     // The right to edit an item's grants.
     pub fn edit() -> Right
         ensures { λ r. ⌜ r .0 ≡ 0 ⌝ }
@@ -54,6 +63,13 @@ impl Right {
 
 impl Depth {
     pub const MAX: u32 = 7;
+
+    // The one in the lowest bits of n, where a word holds it: n cut to its width.
+    pub fn cut(n: u32) -> Depth
+        ensures { λ r. ⌜ r .0 ≡ n % 8 ⌝ }
+    {
+        Depth(n % 8)
+    }
 
     // The range check of one number.
     pub fn read(n: u32) -> DepthRead

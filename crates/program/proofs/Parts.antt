@@ -1,17 +1,17 @@
 -- A chunk taken part after part is taken as one, since each part ends between two pieces; and a run's parts come one after another.
-use mathlib.Core.Path.{_≡_, refl, sym, ap, ap₂, _∙_}
+use mathlib.Core.Path.{_≡_, refl, sym, ap, ap₂, _∙_, subst}
 use mathlib.Core.List.{List, [], _∷_, _++_, append-assoc, append-nil}
 use Prim.Native.Nat.{ℕ, _+_, _-_, _≤_}
 use native.Mathlib.Omega.{arith}
 use lib.ListN.{length, take, drop, length-drop, drop-of-length-le}
 use lib.Seq.{take-all, drop-drop}
-use Rattle.model.specs.Agreement.{Units}
+use Rattle.agreement.specs.Agreement.{Units, freshUnits}
 use Rattle.lines.specs.declared.collect.Partial.{Partial}
 use Rattle.lines.specs.Collect.{Line, linesFrom, linesOf, nothingHeld}
 use Rattle.lines.specs.Chunks.{pieces}
-use Rattle.commands.specs.declared.stream.Progress.{Progress}
-use Rattle.commands.specs.Session.{Session, session, sessionAfterAll, takenOf, bytesOf, Consumes}
-use Rattle.commands.proofs.Session.{after-append, bytes-append, cut, consumes-part, consumes-lines}
+use Rattle.stream.specs.declared.Progress.{Progress}
+use Rattle.stream.specs.Session.{Session, session, freshSession, sessionAfterAll, takenOf, bytesOf, Consumes}
+use Rattle.stream.proofs.Session.{after-append, bytes-append, cut, consumes-part, consumes-lines}
 use Rattle.program.specs.declared.Turn.{Turn}
 use Rattle.program.specs.declared.Turn.the-variants.{Going, Ended, Failed}
 use Rattle.program.specs.Loop.{Holds, StoppedIn, Answered, Came, ReadOnce, Ran}
@@ -123,3 +123,7 @@ reached-here t = record {
   parts = t .parts;
   left = record { units = ap (λ (q : Session). q .units) (t .session); line = ap (λ (q : Session). q .collector .buffer) (t .session) };
 }
+
+-- a run of units that are fresh
+pub ran-fresh : {x u : Units} {buf buf′ : List ℕ} → x ≡ freshUnits → Ran (session 0 x buf nothingHeld) u buf′ → Ran (freshSession buf) u buf′
+ran-fresh {x} {u} {buf} {buf′} e r = subst (λ y. Ran (session 0 y buf nothingHeld) u buf′) e r

@@ -4,11 +4,11 @@ use mathlib.Core.Path.{_≡_}
 use mathlib.Core.List.{List}
 use Prim.Native.Nat.{ℕ, _≤_}
 use lib.ListN.{length, take}
-use Rattle.model.specs.Agreement.{Units}
+use Rattle.agreement.specs.Agreement.{Units}
 use Rattle.lines.specs.Collect.{linesOf}
 use Rattle.lines.specs.Chunks.{pieces}
-use Rattle.commands.specs.declared.stream.Progress.{Progress}
-use Rattle.commands.specs.Session.{Session, session, sessionAfterAll, Closes}
+use Rattle.stream.specs.declared.Progress.{Progress}
+use Rattle.stream.specs.Session.{Session, session, sessionAfterAll, Closes}
 use Rattle.program.specs.declared.Turn.{Turn}
 use Rattle.program.specs.declared.Turn.the-variants.{Going, Ended, Failed}
 

@@ -1,18 +1,18 @@
 // The program: standard input to standard output, over three fresh units. It reads, calls the command reader, and writes.
 // No contract can say which bytes are read or written. What they make of the units, the line buffer and the place in the run is said;
 // of the output buffer, only what the closing lines put there.
-use commands::stream;
-use commands::stream::Progress;
 use grants::Grants;
 use libc::STDIN_FILENO;
 use libc::STDOUT_FILENO;
 use lists::Lists;
 use loans::Loans;
 use rows::Rows;
+use stream::Progress;
 ghost use Prim.Native.Nat.{_≤_};
 ghost use lib.ListN.{length};
 ghost use Rattle.lines.specs.Collect.{nothingHeld};
-ghost use Rattle.commands.specs.Session.{unitsIn, session};
+ghost use Rattle.reader.specs.Replies.{unitsIn};
+ghost use Rattle.stream.specs.Session.{session, freshSession};
 ghost use Rattle.program.specs.Loop.{Answered, ReadOnce, Finishes, Ran};
 
 // Where a run stands after a turn: it goes on, the input ended, or a read or a write failed.
@@ -33,21 +33,21 @@ fn write(out: &[u8], n: usize) -> bool
 fn answer(
     list: &mut [u64; Lists::WORDS],
     row: &mut [u8; Rows::BYTES],
-    image: &mut [u8; Grants::BYTES],
-    table: &mut [u32; Loans::WORDS],
+    grants: &mut [u8; Grants::BYTES],
+    loans: &mut [u32; Loans::WORDS],
     buf: &mut [u8; 128],
     out: &mut [u8],
     p: Progress,
     chunk: &[u8],
 ) -> Turn
-    ensures { λ r. ⌜ Answered (session (p .lines) (unitsIn (now (list .entry)) (now (row .entry)) (now (image .entry)) (now (table .entry)))
+    ensures { λ r. ⌜ Answered (session (p .lines) (unitsIn (now (list .entry)) (now (row .entry)) (now (grants .entry)) (now (loans .entry)))
         (now (buf .entry)) (p .held)) (now (chunk .entry))
-        (unitsIn (now (list .exit)) (now (row .exit)) (now (image .exit)) (now (table .exit))) (now (buf .exit)) r ⌝ }
+        (unitsIn (now (list .exit)) (now (row .exit)) (now (grants .exit)) (now (loans .exit))) (now (buf .exit)) r ⌝ }
 {
     let mut next = p;
     let mut i: usize = 0;
     while i < chunk.len() {
-        let done = stream::consume(list, row, image, table, buf, out, next, &chunk[i..]);
+        let done = stream::consume(list, row, grants, loans, buf, out, next, &chunk[i..]);
         let written = done.written;
         if done.used == 0 {
             return Turn::Failed;
@@ -65,15 +65,15 @@ fn answer(
 fn read_some(
     list: &mut [u64; Lists::WORDS],
     row: &mut [u8; Rows::BYTES],
-    image: &mut [u8; Grants::BYTES],
-    table: &mut [u32; Loans::WORDS],
+    grants: &mut [u8; Grants::BYTES],
+    loans: &mut [u32; Loans::WORDS],
     buf: &mut [u8; 128],
     out: &mut [u8],
     p: Progress,
 ) -> Turn
-    ensures { λ r. ⌜ ReadOnce (session (p .lines) (unitsIn (now (list .entry)) (now (row .entry)) (now (image .entry)) (now (table .entry)))
+    ensures { λ r. ⌜ ReadOnce (session (p .lines) (unitsIn (now (list .entry)) (now (row .entry)) (now (grants .entry)) (now (loans .entry)))
         (now (buf .entry)) (p .held))
-        (unitsIn (now (list .exit)) (now (row .exit)) (now (image .exit)) (now (table .exit))) (now (buf .exit)) r ⌝ }
+        (unitsIn (now (list .exit)) (now (row .exit)) (now (grants .exit)) (now (loans .exit))) (now (buf .exit)) r ⌝ }
 {
     let mut chunk = io::large_buffer();
     let got = libc::read(STDIN_FILENO, &mut chunk);
@@ -84,7 +84,7 @@ fn read_some(
         return Turn::Ended;
     }
     let n = io::count(got, &chunk);
-    answer(list, row, image, table, buf, out, p, &chunk[..n])
+    answer(list, row, grants, loans, buf, out, p, &chunk[..n])
 }
 
 // The closing lines.
@@ -100,19 +100,19 @@ fn finish(out: &mut [u8], p: Progress)
 fn read_all(
     list: &mut [u64; Lists::WORDS],
     row: &mut [u8; Rows::BYTES],
-    image: &mut [u8; Grants::BYTES],
-    table: &mut [u32; Loans::WORDS],
+    grants: &mut [u8; Grants::BYTES],
+    loans: &mut [u32; Loans::WORDS],
     buf: &mut [u8; 128],
     out: &mut [u8],
 )
-    ensures { λ _. ⌜ Ran (session 0 (unitsIn (now (list .entry)) (now (row .entry)) (now (image .entry)) (now (table .entry)))
+    ensures { λ _. ⌜ Ran (session 0 (unitsIn (now (list .entry)) (now (row .entry)) (now (grants .entry)) (now (loans .entry)))
         (now (buf .entry)) nothingHeld)
-        (unitsIn (now (list .exit)) (now (row .exit)) (now (image .exit)) (now (table .exit))) (now (buf .exit)) ⌝ }
+        (unitsIn (now (list .exit)) (now (row .exit)) (now (grants .exit)) (now (loans .exit))) (now (buf .exit)) ⌝ }
 {
     let mut next = Progress::start();
     let mut turns = u64::MAX;
     while turns > 0 {
-        let t = read_some(list, row, image, table, buf, out, next);
+        let t = read_some(list, row, grants, loans, buf, out, next);
         match t {
             Turn::Going(p) => next = p,
             Turn::Ended => {
@@ -125,22 +125,19 @@ fn read_all(
     }
 }
 
-// The whole program. A failed read or write ends it with no further line. Nothing is lent and nothing returned, and no contract can
-// say what is read or written: `parts-same` (commands) says what the calls below write for any input.
-pub fn run() {
-    let mut list = [0u64; Lists::WORDS];
-    let mut row = [0u8; Rows::BYTES];
-    let mut image = [0u8; Grants::BYTES];
-    let mut table = [0u32; Loans::WORDS];
-    let mut buf = [0u8; 128];
-    let mut out = [0u8; 65536];
-    commands::fresh(&mut list, &mut row, &mut image, &mut table);
-    read_all(
-        &mut list,
-        &mut row,
-        &mut image,
-        &mut table,
-        &mut buf,
-        &mut out,
-    );
+// A whole run, whatever the buffers held: three fresh units, then the input to its end. A failed read or write ends it with no further
+// line. What the calls below write for any input is `parts-same` (stream).
+pub fn run(
+    list: &mut [u64; Lists::WORDS],
+    row: &mut [u8; Rows::BYTES],
+    grants: &mut [u8; Grants::BYTES],
+    loans: &mut [u32; Loans::WORDS],
+    buf: &mut [u8; 128],
+    out: &mut [u8],
+)
+    ensures { λ _. ⌜ Ran (freshSession (now (buf .entry)))
+        (unitsIn (now (list .exit)) (now (row .exit)) (now (grants .exit)) (now (loans .exit))) (now (buf .exit)) ⌝ }
+{
+    reader::fresh(list, row, grants, loans);
+    read_all(list, row, grants, loans, buf, out);
 }

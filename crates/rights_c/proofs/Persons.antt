@@ -7,7 +7,7 @@ use Prim.Native.Nat.{ℕ, _≤_}
 use native.Mathlib.Omega.{arith}
 use Rattle.model.specs.Answers.{Found}
 use Rattle.model.specs.Chain.{Meets}
-use Rattle.model.proofs.Sets.{by-cases}
+use Rattle.bits.proofs.Sets.{by-cases}
 
 -- of any answer that demand 2 admits: yes exactly when there are 1 to 8 persons
 pub told : {C : List ℕ → ℕ → Type 0} {f : Found} {buffer : List ℕ} → Meets C f buffer

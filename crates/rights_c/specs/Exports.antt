@@ -4,12 +4,12 @@ use mathlib.Core.Bool.{Bool, true, cond}
 use mathlib.Core.List.{List}
 use Prim.Native.Nat.{ℕ}
 use Rattle.model.specs.declared.Command.{Command}
-use Rattle.model.specs.Machine.{Machine, answerOf, stepOf}
-use Rattle.model.specs.Unit.{Layout, checkNumber, checkYes, checkLeft, freshNumber, freshOf, guarded}
-use Rattle.model.specs.Convert.{convertNumber, convertOf}
-use Rattle.model.specs.Subjects.{subjectsNumber, subjectsAnswer}
-use Rattle.model.specs.Images.{Images}
-use Rattle.model.specs.ChainUnit.{chainCheckNumber, chainFound, chainBuffer, chainLeft, chainFreshNumber, chainFreshOf, chainGuarded}
+use Rattle.layouts.specs.Machine.{Machine, answerOf, stepOf}
+use Rattle.layouts.specs.Layouts.{Layout, checkNumber, checkYes, checkLeft, freshNumber, freshOf, guarded}
+use Rattle.layouts.specs.Convert.{convertNumber, convertOf}
+use Rattle.layouts.specs.Subjects.{subjectsNumber, subjectsAnswer}
+use Rattle.delegation.specs.Images.{Images}
+use Rattle.delegation.specs.ChainUnit.{chainCheckNumber, chainFound, chainBuffer, chainLeft, chainFreshNumber, chainFreshOf, chainGuarded}
 
 abbrev pub flag : Bool → ℕ
 flag b = cond b 1 0

@@ -1,101 +1,111 @@
 // The chain unit for C.
 use crate::reply;
 ghost use Rattle.model.specs.declared.Command.the-variants.{Create, Delete, Allow, Withdraw, Lend, Recall};
-ghost use Rattle.model.specs.Images.{images};
-ghost use Rattle.model.specs.ChainUnit.{chainUnit};
+ghost use Rattle.delegation.specs.Images.{images};
+ghost use Rattle.delegation.specs.ChainUnit.{chainUnit};
 ghost use Rattle.rights_c.specs.Exports.{Gives, ChainFreshens, ChainAnswers, ChainInspects};
 
 #[no_mangle]
-pub extern "C" fn rights_chains_fresh(image: &mut [u8], table: &mut [u32]) -> u32
-    ensures { λ r. ⌜ ChainFreshens (images (now (image .entry)) (now (table .entry))) r (images (now (image .exit)) (now (table .exit))) ⌝ }
+pub extern "C" fn rights_chains_fresh(grants: &mut [u8], loans: &mut [u32]) -> u32
+    ensures { λ r. ⌜ ChainFreshens (images (now (grants .entry)) (now (loans .entry))) r (images (now (grants .exit)) (now (loans .exit))) ⌝ }
 {
-    let a = chains::fresh(image, table);
+    let a = chains::fresh(grants, loans);
     a.number()
 }
 
 #[no_mangle]
-pub extern "C" fn rights_chains_create(image: &mut [u8], table: &mut [u32], by: u32, on: u32) -> u32
-    ensures { λ r. ⌜ Gives chainUnit (images (now (image .entry)) (now (table .entry))) (Create by on) r (images (now (image .exit)) (now (table .exit))) ⌝ }
+pub extern "C" fn rights_chains_create(
+    grants: &mut [u8],
+    loans: &mut [u32],
+    by: u32,
+    on: u32,
+) -> u32
+    ensures { λ r. ⌜ Gives chainUnit (images (now (grants .entry)) (now (loans .entry))) (Create by on) r (images (now (grants .exit)) (now (loans .exit))) ⌝ }
 {
-    let a = chains::create(image, table, by, on);
+    let a = chains::create(grants, loans, by, on);
     a.number()
 }
 
 #[no_mangle]
-pub extern "C" fn rights_chains_delete(image: &mut [u8], table: &mut [u32], by: u32, on: u32) -> u32
-    ensures { λ r. ⌜ Gives chainUnit (images (now (image .entry)) (now (table .entry))) (Delete by on) r (images (now (image .exit)) (now (table .exit))) ⌝ }
+pub extern "C" fn rights_chains_delete(
+    grants: &mut [u8],
+    loans: &mut [u32],
+    by: u32,
+    on: u32,
+) -> u32
+    ensures { λ r. ⌜ Gives chainUnit (images (now (grants .entry)) (now (loans .entry))) (Delete by on) r (images (now (grants .exit)) (now (loans .exit))) ⌝ }
 {
-    let a = chains::delete(image, table, by, on);
+    let a = chains::delete(grants, loans, by, on);
     a.number()
 }
 
 #[no_mangle]
 pub extern "C" fn rights_chains_allow(
-    image: &mut [u8],
-    table: &mut [u32],
+    grants: &mut [u8],
+    loans: &mut [u32],
     by: u32,
     to: u32,
     on: u32,
     right: u32,
     depth: u32,
 ) -> u32
-    ensures { λ r. ⌜ Gives chainUnit (images (now (image .entry)) (now (table .entry))) (Allow by to on right depth) r (images (now (image .exit)) (now (table .exit))) ⌝ }
+    ensures { λ r. ⌜ Gives chainUnit (images (now (grants .entry)) (now (loans .entry))) (Allow by to on right depth) r (images (now (grants .exit)) (now (loans .exit))) ⌝ }
 {
-    let a = chains::allow(image, table, by, to, on, right, depth);
+    let a = chains::allow(grants, loans, by, to, on, right, depth);
     a.number()
 }
 
 #[no_mangle]
 pub extern "C" fn rights_chains_withdraw(
-    image: &mut [u8],
-    table: &mut [u32],
+    grants: &mut [u8],
+    loans: &mut [u32],
     by: u32,
     to: u32,
     on: u32,
     right: u32,
 ) -> u32
-    ensures { λ r. ⌜ Gives chainUnit (images (now (image .entry)) (now (table .entry))) (Withdraw by to on right) r (images (now (image .exit)) (now (table .exit))) ⌝ }
+    ensures { λ r. ⌜ Gives chainUnit (images (now (grants .entry)) (now (loans .entry))) (Withdraw by to on right) r (images (now (grants .exit)) (now (loans .exit))) ⌝ }
 {
-    let a = chains::withdraw(image, table, by, to, on, right);
+    let a = chains::withdraw(grants, loans, by, to, on, right);
     a.number()
 }
 
 #[no_mangle]
 pub extern "C" fn rights_chains_lend(
-    image: &mut [u8],
-    table: &mut [u32],
+    grants: &mut [u8],
+    loans: &mut [u32],
     by: u32,
     to: u32,
     on: u32,
     right: u32,
     depth: u32,
 ) -> u32
-    ensures { λ r. ⌜ Gives chainUnit (images (now (image .entry)) (now (table .entry))) (Lend by to on right depth) r (images (now (image .exit)) (now (table .exit))) ⌝ }
+    ensures { λ r. ⌜ Gives chainUnit (images (now (grants .entry)) (now (loans .entry))) (Lend by to on right depth) r (images (now (grants .exit)) (now (loans .exit))) ⌝ }
 {
-    let a = chains::lend(image, table, by, to, on, right, depth);
+    let a = chains::lend(grants, loans, by, to, on, right, depth);
     a.number()
 }
 
 #[no_mangle]
 pub extern "C" fn rights_chains_recall(
-    image: &mut [u8],
-    table: &mut [u32],
+    grants: &mut [u8],
+    loans: &mut [u32],
     by: u32,
     to: u32,
     on: u32,
     right: u32,
     depth: u32,
 ) -> u32
-    ensures { λ r. ⌜ Gives chainUnit (images (now (image .entry)) (now (table .entry))) (Recall by to on right depth) r (images (now (image .exit)) (now (table .exit))) ⌝ }
+    ensures { λ r. ⌜ Gives chainUnit (images (now (grants .entry)) (now (loans .entry))) (Recall by to on right depth) r (images (now (grants .exit)) (now (loans .exit))) ⌝ }
 {
-    let a = chains::recall(image, table, by, to, on, right, depth);
+    let a = chains::recall(grants, loans, by, to, on, right, depth);
     a.number()
 }
 
 #[no_mangle]
 pub extern "C" fn rights_chains_check(
-    image: &[u8],
-    table: &[u32],
+    grants: &[u8],
+    loans: &[u32],
     who: u32,
     on: u32,
     right: u32,
@@ -103,9 +113,9 @@ pub extern "C" fn rights_chains_check(
     depth: &mut u32,
     persons: &mut u32,
 ) -> u32
-    ensures { λ r. ⌜ ChainAnswers (images (now (image .entry)) (now (table .entry))) (now (chain .entry)) who on right r (now (depth .exit)) (now (persons .exit)) (now (chain .exit)) (images (now (image .exit)) (now (table .exit))) ⌝ }
+    ensures { λ r. ⌜ ChainAnswers (images (now (grants .entry)) (now (loans .entry))) (now (chain .entry)) who on right r (now (depth .exit)) (now (persons .exit)) (now (chain .exit)) (images (now (grants .exit)) (now (loans .exit))) ⌝ }
 {
-    let c = chains::check(image, table, who, on, right, chain);
+    let c = chains::check(grants, loans, who, on, right, chain);
     let f = reply::values(c);
     *depth = f.depth;
     *persons = f.persons;
@@ -113,9 +123,9 @@ pub extern "C" fn rights_chains_check(
 }
 
 #[no_mangle]
-pub extern "C" fn rights_chains_in_order(image: &[u8], table: &[u32]) -> u32
-    ensures { λ r. ⌜ ChainInspects (images (now (image .entry)) (now (table .entry))) r (images (now (image .exit)) (now (table .exit))) ⌝ }
+pub extern "C" fn rights_chains_in_order(grants: &[u8], loans: &[u32]) -> u32
+    ensures { λ r. ⌜ ChainInspects (images (now (grants .entry)) (now (loans .entry))) r (images (now (grants .exit)) (now (loans .exit))) ⌝ }
 {
-    let a = chains::inspect(image, table);
+    let a = chains::inspect(grants, loans);
     a.number()
 }

@@ -5,7 +5,7 @@ use version::Version;
 ghost use mathlib.Core.Path.{_≡_};
 
 mod chain_unit;
-mod convert;
+mod conversion;
 mod lists_unit;
 mod reply;
 mod rows_unit;

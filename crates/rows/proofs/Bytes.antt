@@ -5,13 +5,14 @@ use mathlib.Core.List.{List}
 use Prim.Native.Nat.{ℕ, _+_, _*_, _/_, _%_, _<_}
 use native.Mathlib.Omega.{arith}
 use lib.ListN.{length, getD, set}
-use Rattle.model.specs.Bits.{bit, withBit, withoutBit}
-use Rattle.model.specs.Zeros.{zeroed, spaced}
+use Rattle.bits.specs.Bits.{bit, withBit, withoutBit}
+use Rattle.bits.specs.Zeros.{zeroed, spaced}
 use Rattle.model.specs.Journal.{grant}
-use Rattle.model.specs.Unit.{rows, held, liveIn, created, deleted, allowed, withdrawn}
-use Rattle.model.proofs.Unit.{rows-laws}
-use Rattle.model.proofs.Edits.{Cells, marked, cleared, rows-flat, cell-bit, held-is, allow-is, withdraw-is, create-is}
-use Rattle.model.proofs.Zeros.{spaced-before, spaced-block, spaced-column, delete-cells}
+use Rattle.layouts.specs.Layouts.{rows, held, liveIn, created, deleted, allowed, withdrawn}
+use Rattle.layouts.proofs.Layouts.{rows-laws}
+use Rattle.bits.proofs.Marks.{Cells, marked, cleared, cell-bit}
+use Rattle.layouts.proofs.Edits.{rows-flat, held-is, allow-is, withdraw-is, create-is, delete-cells}
+use Rattle.bits.proofs.Zeros.{spaced-before, spaced-block, spaced-column}
 
 -- bit b of byte c
 pub byte-bit : (s : List ℕ) (k c b : ℕ) → b < 8 → k ≡ c * 8 + b → liveIn rows s k ≡ bit (getD s c 0) b

@@ -9,16 +9,18 @@ use lib.ListN.{length, take, drop, getD}
 use lib.Seq.{getD-take, getD-drop}
 use lib.Bits.{bitAnd, bitOr}
 use lib.Dec.{eqb}
-use Rattle.model.specs.Sets.{allBelow}
-use Rattle.model.specs.Cells.{at}
-use Rattle.model.specs.Live.{masksOf}
-use Rattle.model.specs.Unit.{rows, grantBit}
-use Rattle.model.proofs.Sets.{fst, snd, both, by-cases}
-use Rattle.model.proofs.Indexed.{below-elim, below-fails, below-ext, below-or, below-nested, below-swap, some-intro, some-elim}
-use Rattle.model.proofs.Bits.{bit-of-zero, some-bit}
-use Rattle.model.proofs.Scan.{orBelow, or-zero-below, or-part, mask-both, masks-at, cell-named}
-use Rattle.model.proofs.Order.{itemsOk, personsOk}
-use Rattle.model.proofs.Subjects.{isSubject}
+use Rattle.bits.specs.Sets.{allBelow}
+use Rattle.bits.specs.Cells.{at}
+use Rattle.layouts.specs.Live.{masksOf}
+use Rattle.layouts.specs.Layouts.{rows, grantBit}
+use Rattle.bits.proofs.Sets.{fst, snd, both, by-cases}
+use Rattle.bits.proofs.Indexed.{below-elim, below-fails, below-ext, below-or, below-nested, below-swap, some-intro, some-elim}
+use Rattle.bits.proofs.Bits.{bit-of-zero, some-bit}
+use Rattle.bits.specs.Bits.{orBelow}
+use Rattle.bits.proofs.Scan.{or-zero-below, or-part, mask-both, cell-named}
+use Rattle.layouts.proofs.Masks.{masks-at}
+use Rattle.layouts.specs.Order.{itemsOk, personsOk}
+use Rattle.layouts.specs.Subjects.{isSubject}
 use Rattle.rows.proofs.Bytes.{byte-bit}
 
 module _ (s : List ℕ) (h : (i : ℕ) → getD s i 0 < 2 ^ 8) where

@@ -1,5 +1,8 @@
 // The rows unit: capability rows. An image has 4,104 bytes: bytes 0 to 7 are the live set, least first; byte 8 + 64 * person + on
 // has bit r for each right r that the person has on item on.
+use bits::byte;
+use bits::bytes;
+use layouts::live;
 use model::Answer;
 use model::Checked;
 use model::Command;
@@ -12,10 +15,7 @@ use model::Right;
 use model::SubjectSet;
 use model::Typed;
 use model::Within;
-use model::byte;
-use model::bytes;
 use model::judge;
-use model::live;
 ghost use mathlib.Core.Path.{_≡_};
 ghost use Prim.Native.Nat.{_+_, _*_, _<_};
 ghost use lib.ListN.{length, getD};
@@ -23,11 +23,10 @@ ghost use Rattle.model.specs.declared.Command.the-variants.{Create, Delete, All
 ghost use Rattle.model.specs.Commands.{Ranged, rawOf};
 ghost use Rattle.model.specs.Answers.{numberOf};
 ghost use Rattle.model.specs.Journal.{grant};
-ghost use Rattle.model.specs.Machine.{Judged, Ran, Offers};
-ghost use Rattle.model.specs.Unit.{rows, rowBytes, held, guarded, factsOf, created, deleted, allowed, withdrawn, after, flatUnit, Inspects, Checks, freshImage, Freshens};
-ghost use Rattle.model.specs.Subjects.{Tells};
+ghost use Rattle.layouts.specs.Machine.{Judged, Ran, Offers};
+ghost use Rattle.layouts.specs.Layouts.{rows, rowBytes, held, guarded, factsOf, created, deleted, allowed, withdrawn, after, flatUnit, Inspects, Checks, freshImage, Freshens};
+ghost use Rattle.layouts.specs.Subjects.{Tells};
 
-pub mod convert;
 mod scan;
 
 // The two bytes of a fresh unit that are not 0: the first of the live set, and the root item's rights on itself.

@@ -1,19 +1,18 @@
 // Scans of whole rows: whether they are in order, and who holds a right. No branch and no exit within a row.
-use model::byte;
-use model::live;
-use model::word;
+use bits::byte;
+use bits::word;
+use layouts::live;
 ghost use mathlib.Core.Path.{_≡_};
 ghost use mathlib.Core.Bool.{not};
 ghost use Prim.Native.Nat.{_+_, _*_, _<_};
 ghost use lib.Dec.{eqb};
 ghost use lib.ListN.{length, getD};
-ghost use Rattle.model.specs.Sets.{allBelow};
-ghost use Rattle.model.specs.Unit.{rows, rowBytes, inOrder};
-ghost use Rattle.model.specs.Subjects.{subjectsOf};
-ghost use Rattle.model.specs.Live.{masksOf};
-ghost use Rattle.model.proofs.Scan.{orBelow};
-ghost use Rattle.model.proofs.Order.{blockOk, itemsOk, personsOk};
-ghost use Rattle.model.proofs.Subjects.{isSubject};
+ghost use Rattle.bits.specs.Sets.{allBelow};
+ghost use Rattle.layouts.specs.Layouts.{rows, rowBytes, inOrder};
+ghost use Rattle.layouts.specs.Subjects.{subjectsOf, isSubject};
+ghost use Rattle.layouts.specs.Live.{masksOf};
+ghost use Rattle.bits.specs.Bits.{orBelow};
+ghost use Rattle.layouts.specs.Order.{blockOk, itemsOk, personsOk};
 
 // Whether the rows of the eight persons from 8 * k on have rights on living items only.
 fn items_live(image: &[u8], k: usize, masks: &[u8; 64]) -> bool

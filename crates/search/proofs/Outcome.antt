@@ -11,10 +11,10 @@ use Rattle.model.specs.declared.Depth.{Depth}
 use Rattle.model.specs.declared.DepthRead.the-variants as depthRead
 use Rattle.model.specs.declared.ChainChecked.the-variants as chain
 use lib.ListN.{drop, take, replicate}
-use Rattle.model.specs.Sets.{keep, tabulate, most, firstAt}
-use Rattle.model.specs.Loans.{keyOf, countOf, used}
-use Rattle.model.specs.Search.{picked, grantRound, roundAt, column, traced, roundsOf, heightOf, lengthOf, foundOf, chainOf}
-use Rattle.model.proofs.Search.{height-le, found-no, found-yes}
+use Rattle.bits.specs.Sets.{keep, tabulate, most, firstAt}
+use Rattle.delegation.specs.Loans.{keyOf, countOf, used}
+use Rattle.delegation.specs.Search.{picked, grantRound, roundAt, column, traced, roundsOf, heightOf, lengthOf, foundOf, chainOf}
+use Rattle.delegation.proofs.Search.{height-le, found-no, found-yes}
 use Rattle.search.specs.Entry.{entryFound}
 use Rattle.search.specs.Settled.{Settled}
 use Rattle.search.proofs.Trace.{traced-ext}

@@ -11,9 +11,9 @@ use lib.Seq.{take-suc, take-suc-set, take-set-le}
 use lib.Bits.{bitOr}
 use lib.Dec.{eqb}
 use borrow.Author.Tests.{eqb-true, eq-eqb}
-use Rattle.model.specs.Sets.{keep}
-use Rattle.model.proofs.Sets.{fst, snd}
-use Rattle.model.proofs.Scan.{or-zero}
+use Rattle.bits.specs.Sets.{keep}
+use Rattle.bits.proofs.Sets.{fst, snd}
+use Rattle.bits.proofs.Scan.{or-zero}
 
 pub keep-append : (t : ℕ → Bool) (xs ys : List ℕ) → keep t (xs ++ ys) ≡ keep t xs ++ keep t ys
 unfolding keep

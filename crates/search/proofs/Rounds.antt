@@ -11,10 +11,10 @@ use lib.Dec.{ltb}
 use borrow.Author.Count.{below-more}
 use lib.ListN.{length, getD, set}
 use lib.Seq.{getD-set-same, getD-set-other}
-use Rattle.model.specs.Sets.{most, firstAt}
-use Rattle.model.specs.Loans.{lender, borrower}
-use Rattle.model.specs.Search.{gain, arriving, nextRound, roundAt}
-use Rattle.model.proofs.Search.{arrive-here, arrive-else}
+use Rattle.bits.specs.Sets.{most, firstAt}
+use Rattle.delegation.specs.Loans.{lender, borrower}
+use Rattle.delegation.specs.Search.{gain, arriving, nextRound, roundAt}
+use Rattle.delegation.proofs.Search.{arrive-here, arrive-else}
 
 -- a store at p where all below p is as f says
 pub fill-more : {A : Type 0} (f : ℕ → A) (d : A) (l : List A) (p : ℕ) (v : A) → p < length l → v ≡ f p

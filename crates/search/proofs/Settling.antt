@@ -11,11 +11,11 @@ use native.Mathlib.Decide.{ℕ-discrete}
 use lib.Dec.{ltb}
 use borrow.Author.Tests.{le-ltb}
 use lib.ListN.{length, getD}
-use Rattle.model.specs.Sets.{tabulate, most, firstAt}
-use Rattle.model.specs.Loans.{lender, borrower}
-use Rattle.model.specs.Search.{arrive, arriving, nextRound, roundAt, column}
-use Rattle.model.proofs.Search.{arrive-here, arrive-else}
-use Rattle.model.proofs.Indexed.{getD-tabulate, most-above, first-le, split}
+use Rattle.bits.specs.Sets.{tabulate, most, firstAt}
+use Rattle.delegation.specs.Loans.{lender, borrower}
+use Rattle.delegation.specs.Search.{arrive, arriving, nextRound, roundAt, column}
+use Rattle.delegation.proofs.Search.{arrive-here, arrive-else}
+use Rattle.bits.proofs.Indexed.{getD-tabulate, most-above, first-le, split}
 use Rattle.search.specs.Settled.{Settled}
 
 -- ---- the greatest of some values, and its first place

@@ -9,8 +9,8 @@ use lib.Dec.{eqb}
 use borrow.Author.Tests.{eq-eqb, ne-eqb}
 use lib.ListN.{length, getD, set, drop, replicate, length-set}
 use lib.Seq.{getD-set-same, drop-cons, drop-set-lt}
-use Rattle.model.specs.Loans.{lender}
-use Rattle.model.specs.Search.{arriving, column, lenderTo, traced}
+use Rattle.delegation.specs.Loans.{lender}
+use Rattle.delegation.specs.Search.{arriving, column, lenderTo, traced}
 
 -- the last of the first i loans, which passes x on to q
 module _ (ls round : List ℕ) (q v i x : ℕ) (h : 0 < i) (got : x ≡ arriving ls round q (i - 1)) where

@@ -4,12 +4,12 @@ use mathlib.Core.List.{List}
 use Prim.Native.Nat.{ℕ, _≤_}
 use lib.ListN.{length}
 use Rattle.model.specs.Commands.{mostLoans}
-use Rattle.model.specs.Unit.{grantCells}
-use Rattle.model.specs.Loans.{tableWords, countOf}
+use Rattle.layouts.specs.Layouts.{grantCells}
+use Rattle.delegation.specs.Loans.{loanWords, countOf}
 
 pub record InShape (gs t : List ℕ) (who on right room : ℕ) : Type 0 where
   pub grants : length gs ≡ grantCells
-  pub loans : length t ≡ tableWords
+  pub loans : length t ≡ loanWords
   pub count : countOf t ≤ mostLoans
   pub person : who ≤ 63
   pub item : on ≤ 63

@@ -4,8 +4,8 @@ use mathlib.Core.List.{List}
 use Prim.Native.Nat.{ℕ, _≤_}
 use lib.Dec.{eqb}
 use lib.ListN.{length, take}
-use Rattle.model.specs.Sets.{keep}
-use Rattle.model.specs.Loans.{keyOf}
+use Rattle.bits.specs.Sets.{keep}
+use Rattle.delegation.specs.Loans.{keyOf}
 
 pub record Picked (loans : List ℕ) (key i m : ℕ) (out : List ℕ) : Type 0 where
   pub within : i ≤ length loans

@@ -3,8 +3,8 @@ use mathlib.Core.Path.{_≡_}
 use mathlib.Core.List.{List, []}
 use Prim.Native.Nat.{ℕ, _≤_}
 use lib.ListN.{getD}
-use Rattle.model.specs.Sets.{most, firstAt}
-use Rattle.model.specs.Search.{column}
+use Rattle.bits.specs.Sets.{most, firstAt}
+use Rattle.delegation.specs.Search.{column}
 
 -- the person's greatest entry is the same, it is first in the same round, and the rounds up to that one are the same
 pub record Settled (whole rounds : List (List ℕ)) (who : ℕ) : Type 0 where

@@ -1,25 +1,25 @@
 // The search for the best chain of a person on an item and right: the greatest last allowance of any, and a chain that has it.
 // The loans of the item and right are picked once. Round k has for each person 0, or 1 + the greatest allowance of the chains
 // to that person with exactly k loans; a loan costs one, so rounds 0 to 7 have all chains.
+use delegation::loan;
+use delegation::loan::Header;
 use model::ChainChecked;
 use model::Depth;
 use model::DepthRead;
 use model::Item;
 use model::Right;
-use model::loan;
-use model::loan::Header;
 ghost use mathlib.Core.Path.{_≡_};
 ghost use mathlib.Core.Bool.{cond};
 ghost use mathlib.Core.List.{_++_};
 ghost use Prim.Native.Nat.{ℕ, _+_, _-_, _*_, _≤_, _<_, max};
 ghost use lib.Dec.{eqb, ltb};
 ghost use lib.ListN.{length, getD, set, take, replicate};
-ghost use Rattle.model.specs.Sets.{keep, tabulate, most, firstAt};
+ghost use Rattle.bits.specs.Sets.{keep, tabulate, most, firstAt};
 ghost use Rattle.model.specs.Commands.{mostLoans};
 ghost use Rattle.model.specs.Answers.{foundSaid};
-ghost use Rattle.model.specs.Unit.{grantCells};
-ghost use Rattle.model.specs.Loans.{keyOf, tableWords, countOf, lender, borrower};
-ghost use Rattle.model.specs.Search.{gain, arrive, grantRound, nextRound, roundAt, column, lenderTo, traced, foundOf, chainOf};
+ghost use Rattle.layouts.specs.Layouts.{grantCells};
+ghost use Rattle.delegation.specs.Loans.{keyOf, loanWords, countOf, lender, borrower};
+ghost use Rattle.delegation.specs.Search.{gain, arrive, grantRound, nextRound, roundAt, column, lenderTo, traced, foundOf, chainOf};
 ghost use Rattle.search.specs.InShape.{InShape};
 ghost use Rattle.search.specs.Entry.{entryFound};
 ghost use Rattle.search.specs.Picked.{Picked};
@@ -350,7 +350,7 @@ fn best_in(
     key: u32,
     who: Item,
 ) -> ChainChecked
-    requires { ⌜ (length (now loans) ≡ tableWords) × (countOf (now loans) ≤ length (now out)) × (length (now out) ≤ mostLoans)
+    requires { ⌜ (length (now loans) ≡ loanWords) × (countOf (now loans) ≤ length (now out)) × (length (now out) ≤ mostLoans)
         × (length (now grants) ≡ grantCells) × (key ≤ 511) × (who .0 ≤ 63) × (length (now chain) ≡ 8) ⌝ }
     ensures { λ r. ⌜ (r ≡ foundSaid (foundOf (now (grants .entry)) (now (loans .entry)) key (who .0)))
         × (now (chain .exit) ≡ chainOf (now (grants .entry)) (now (loans .entry)) key (who .0)) ⌝ }

@@ -3,6 +3,7 @@
 #![allow(dead_code, unused_imports)]
 
 mod chains;
+pub mod commands;
 mod images;
 mod journal;
 

@@ -3,8 +3,8 @@ use mathlib.Core.Path.{ap, _∙_}
 use mathlib.Core.Bool.{not}
 use lib.Dec.{eqb}
 use Rattle.model.specs.Commands.{rawOf}
-use Rattle.model.specs.Loans.{loansWith, loansKept}
-use Rattle.model.specs.Images.{images}
+use Rattle.delegation.specs.Loans.{loansWith, loansKept}
+use Rattle.delegation.specs.Images.{images}
 use Rattle.chains.proofs.Arms.{arm, room}
 use Rattle.chains.proofs.apply.Statement.{statement}
 use Rattle.chains.proofs.apply.Tie as tie
@@ -36,19 +36,19 @@ drop-grants-requires c κs = search needs
 enum-told-5 : tie.Need-enum-told-5
 enum-told-5 c = search needs
 
-code-requires : tie.Need-code-requires
-code-requires c κs = search needs
+loan-word-requires : tie.Need-loan-word-requires
+loan-word-requires c κs = search needs
 
 insert-requires : tie.Need-insert-requires
 insert-requires c κs =
     let start = c .before .before .before .before .before .before in
-    room (start .args .image .now) (start .args .table .now) (rawOf (start .args .t)) _ (c .code .ensures) (c .before .before .enum-told5 .given .1) (start .pre)
+    room (start .args .grants .now) (start .args .loans .now) (rawOf (start .args .t)) _ (c .loan-word .ensures) (c .before .before .enum-told5 .given .1) (start .pre)
 
 enum-told-6 : tie.Need-enum-told-6
 enum-told-6 c = search needs
 
-code-requires-2 : tie.Need-code-requires-2
-code-requires-2 c κs = search needs
+loan-word-requires-2 : tie.Need-loan-word-requires-2
+loan-word-requires-2 c κs = search needs
 
 drop-loan-requires : tie.Need-drop-loan-requires
 drop-loan-requires c κs = search needs
@@ -59,8 +59,8 @@ same-length c = search needs
 returns : tie.Need-returns
 returns c =
     let start = c .before .before .before .before .before .before .before .before in
-    arm (images (start .args .image .now) (start .args .table .now)) _ (rawOf (start .args .t)) _ (c .before .before .before .before .enum-told .given .1)
-    (ap (λ g. images g (start .args .table .now)) (c .before .before .put-item .ensures))
+    arm (images (start .args .grants .now) (start .args .loans .now)) _ (rawOf (start .args .t)) _ (c .before .before .before .before .enum-told .given .1)
+    (ap (λ g. images g (start .args .loans .now)) (c .before .before .put-item .ensures))
 
 same-length-2 : tie.Need-same-length-2
 same-length-2 c = search needs
@@ -71,7 +71,7 @@ same-length-3 c = search needs
 returns-2 : tie.Need-returns-2
 returns-2 c =
     let start = c .before .before .before .before .before .before .before .before .before .before .before in
-    arm (images (start .args .image .now) (start .args .table .now)) _ (rawOf (start .args .t)) _ (c .before .before .before .before .before .before .before .enum-told2 .given .1)
+    arm (images (start .args .grants .now) (start .args .loans .now)) _ (rawOf (start .args .t)) _ (c .before .before .before .before .before .before .before .enum-told2 .given .1)
     (c .before .before .before .before .drop-item .ensures)
 
 same-length-4 : tie.Need-same-length-4
@@ -80,8 +80,8 @@ same-length-4 c = search needs
 returns-3 : tie.Need-returns-3
 returns-3 c =
     let start = c .before .before .before .before .before .before .before .before in
-    arm (images (start .args .image .now) (start .args .table .now)) _ (rawOf (start .args .t)) _ (c .before .before .before .before .enum-told3 .given .1)
-    (ap (λ g. images g (start .args .table .now)) (c .before .before .put-grant .ensures))
+    arm (images (start .args .grants .now) (start .args .loans .now)) _ (rawOf (start .args .t)) _ (c .before .before .before .before .enum-told3 .given .1)
+    (ap (λ g. images g (start .args .loans .now)) (c .before .before .put-grant .ensures))
 
 same-length-5 : tie.Need-same-length-5
 same-length-5 c = search needs
@@ -89,8 +89,8 @@ same-length-5 c = search needs
 returns-4 : tie.Need-returns-4
 returns-4 c =
     let start = c .before .before .before .before .before .before .before .before in
-    arm (images (start .args .image .now) (start .args .table .now)) _ (rawOf (start .args .t)) _ (c .before .before .before .before .enum-told4 .given .1)
-    (ap (λ g. images g (start .args .table .now)) (c .before .before .drop-grants .ensures))
+    arm (images (start .args .grants .now) (start .args .loans .now)) _ (rawOf (start .args .t)) _ (c .before .before .before .before .enum-told4 .given .1)
+    (ap (λ g. images g (start .args .loans .now)) (c .before .before .drop-grants .ensures))
 
 same-length-6 : tie.Need-same-length-6
 same-length-6 c = search needs
@@ -98,8 +98,8 @@ same-length-6 c = search needs
 returns-5 : tie.Need-returns-5
 returns-5 c =
     let start = c .before .before .before .before .before .before .before .before .before in
-    arm (images (start .args .image .now) (start .args .table .now)) _ (rawOf (start .args .t)) _ (c .before .before .before .before .before .enum-told5 .given .1)
-    (ap (images (start .args .image .now)) (c .before .before .insert .ensures ∙ ap (λ w. loansWith w (start .args .table .now)) (c .before .before .before .code .ensures)))
+    arm (images (start .args .grants .now) (start .args .loans .now)) _ (rawOf (start .args .t)) _ (c .before .before .before .before .before .enum-told5 .given .1)
+    (ap (images (start .args .grants .now)) (c .before .before .insert .ensures ∙ ap (λ w. loansWith w (start .args .loans .now)) (c .before .before .before .loan-word .ensures)))
 
 same-length-7 : tie.Need-same-length-7
 same-length-7 c = search needs
@@ -107,8 +107,8 @@ same-length-7 c = search needs
 returns-6 : tie.Need-returns-6
 returns-6 c =
     let start = c .before .before .before .before .before .before .before .before .before in
-    arm (images (start .args .image .now) (start .args .table .now)) _ (rawOf (start .args .t)) _ (c .before .before .before .before .before .enum-told6 .given .1)
-    (ap (images (start .args .image .now)) (c .before .before .drop-loan .ensures ∙ ap (λ w. loansKept (λ x. not (eqb w x)) (start .args .table .now)) (c .before .before .before .code2 .ensures)))
+    arm (images (start .args .grants .now) (start .args .loans .now)) _ (rawOf (start .args .t)) _ (c .before .before .before .before .before .enum-told6 .given .1)
+    (ap (images (start .args .grants .now)) (c .before .before .drop-loan .ensures ∙ ap (λ w. loansKept (λ x. not (eqb w x)) (start .args .loans .now)) (c .before .before .before .loan-word2 .ensures)))
 
 pub apply-spec : {M : Type 1} → statement M
 apply-spec =
@@ -123,10 +123,10 @@ apply-spec =
     enum-told-4
     drop-grants-requires
     enum-told-5
-    code-requires
+    loan-word-requires
     insert-requires
     enum-told-6
-    code-requires-2
+    loan-word-requires-2
     drop-loan-requires
     same-length
     returns

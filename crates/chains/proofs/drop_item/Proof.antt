@@ -1,7 +1,7 @@
 use borrow.Author.Needs.{needs}
-use Rattle.model.specs.Images.{images}
+use Rattle.delegation.specs.Images.{images}
 use Rattle.chains.specs.Ready.{withoutItem}
-use Rattle.chains.proofs.Arms.{stepped, kept-table}
+use Rattle.chains.proofs.Arms.{stepped, kept-loans}
 use Rattle.chains.proofs.drop_item.Statement.{statement}
 use Rattle.chains.proofs.drop_item.Tie as tie
 
@@ -20,8 +20,8 @@ same-length-2 c = search needs
 returns : tie.Need-returns
 returns c =
     let start = c .before .before .before .before .before .before .before .before .before .before in
-    stepped (withoutItem (images (start .args .image .now) (start .args .table .now)) (start .args .on .0)) (c .before .before .before .before .before .before .drop-item .ensures)
-    (kept-table (start .args .table .now) _ _ (start .pre .1) (c .before .before .retain .ensures .0))
+    stepped (withoutItem (images (start .args .grants .now) (start .args .loans .now)) (start .args .on .0)) (c .before .before .before .before .before .before .drop-item .ensures)
+    (kept-loans (start .args .loans .now) _ _ (start .pre .1) (c .before .before .retain .ensures .0))
 
 pub drop-item-spec : {M : Type 1} → statement M
 drop-item-spec =

@@ -1,5 +1,5 @@
 use borrow.Author.Needs.{needs}
-use Rattle.chains.proofs.Arms.{kept-table}
+use Rattle.chains.proofs.Arms.{kept-loans}
 use Rattle.chains.proofs.drop_loan.Statement.{statement}
 use Rattle.chains.proofs.drop_loan.Tie as tie
 
@@ -10,7 +10,7 @@ same-length : tie.Need-same-length
 same-length c = search needs
 
 returns : tie.Need-returns
-returns c = let start = c .before .before .before .before .before in kept-table (start .args .table .now) _ _ (start .pre) (c .before .before .retain .ensures .0)
+returns c = let start = c .before .before .before .before .before in kept-loans (start .args .loans .now) _ _ (start .pre) (c .before .before .retain .ensures .0)
 
 pub drop-loan-spec : {M : Type 1} → statement M
 drop-loan-spec = tie.close (tie.spec retain-requires same-length returns)

@@ -1,7 +1,7 @@
 use borrow.Author.Needs.{needs}
 use Rattle.model.specs.Commands.{rawOf}
-use Rattle.model.specs.Unit.{grantBytes}
-use Rattle.model.specs.Images.{images}
+use Rattle.layouts.specs.Layouts.{grantBytes}
+use Rattle.delegation.specs.Images.{images}
 use Rattle.chains.proofs.Judging.{facts-are}
 use Rattle.chains.proofs.facts.Statement.{statement}
 use Rattle.chains.proofs.facts.Tie as tie
@@ -9,8 +9,8 @@ use Rattle.chains.proofs.facts.Tie as tie
 edit-requires : tie.Need-edit-requires
 edit-requires c κs = search needs
 
-code-requires : tie.Need-code-requires
-code-requires c κs = search needs
+loan-word-requires : tie.Need-loan-word-requires
+loan-word-requires c κs = search needs
 
 is-live-requires : tie.Need-is-live-requires
 is-live-requires c κs = search needs
@@ -31,7 +31,7 @@ returns : tie.Need-returns
 unfolding grantBytes
 returns c =
     let start = c .before .before .before .before .before .before .before .before .before .before .before .before in
-    facts-are (images (start .args .image .now) (start .args .table .now)) (rawOf (start .args .t)) _ _ _ _ _ _ _ (c .before .before .before .before .before .before .edit .ensures) (c .before .before .before .before .before .code .ensures)
+    facts-are (images (start .args .grants .now) (start .args .loans .now)) (rawOf (start .args .t)) _ _ _ _ _ _ _ (c .before .before .before .before .before .before .edit .ensures) (c .before .before .before .before .before .loan-word .ensures)
     (c .before .before .before .before .is-live .ensures) (c .before .before .before .is-live2 .ensures) (c .before .before .is-live3 .ensures) (c .before .holds .ensures) (c .is-full .ensures)
 
 pub facts-spec : {M : Type 1} → statement M
@@ -39,7 +39,7 @@ facts-spec =
     tie.close
     (tie.spec
     edit-requires
-    code-requires
+    loan-word-requires
     is-live-requires
     is-live-requires-2
     is-live-requires-3

@@ -1,5 +1,5 @@
 use borrow.Author.Needs.{needs}
-use Rattle.model.specs.Images.{images}
+use Rattle.delegation.specs.Images.{images}
 use Rattle.chains.proofs.Judging.{inspected}
 use Rattle.chains.proofs.inspect.Statement.{statement}
 use Rattle.chains.proofs.inspect.Tie as tie
@@ -8,7 +8,7 @@ order-requires : tie.Need-order-requires
 order-requires c κs = search needs
 
 returns : tie.Need-returns
-returns c = inspected (images (c .before .before .before .args .image .now) (c .before .before .before .args .table .now)) _ (c .order .ensures)
+returns c = inspected (images (c .before .before .before .args .grants .now) (c .before .before .before .args .loans .now)) _ (c .order .ensures)
 
 pub inspect-spec : {M : Type 1} → statement M
 inspect-spec = tie.close (tie.spec order-requires returns)

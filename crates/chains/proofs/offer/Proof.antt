@@ -1,10 +1,9 @@
 use borrow.Author.Needs.{needs}
 use mathlib.Core.Path.{sym, _∙_}
-use Rattle.model.proofs.Ends.{ran-stops, ran-beyond, ran-judged}
-use Rattle.model.proofs.ChainEnds.{chain-guards}
-use Rattle.model.specs.ChainUnit.{chainUnit}
+use Rattle.layouts.proofs.Ends.{ran-stops, ran-beyond, ran-judged}
+use Rattle.delegation.specs.ChainUnit.{chainUnit}
 use Rattle.chains.proofs.Judging.{ready}
-use Rattle.model.specs.Images.{images}
+use Rattle.delegation.specs.Images.{images}
 use Rattle.chains.proofs.offer.Statement.{statement}
 use Rattle.chains.proofs.offer.Tie as tie
 
@@ -23,7 +22,7 @@ same-length-2 c = search needs
 returns : tie.Need-returns
 returns c =
     let start = c .before .before .before .before .before .before .before in
-    ran-stops chainUnit (images (start .args .image .now) (start .args .table .now)) chain-guards (start .args .c) _ (c .before .before .order .ensures) (λ z. c .if1 .taken (c .before .number .ensures ∙ z))
+    ran-stops chainUnit (images (start .args .grants .now) (start .args .loans .now)) (start .args .c) _ (c .before .before .order .ensures) (λ z. c .if1 .taken (c .before .number .ensures ∙ z))
 
 within-requires : tie.Need-within-requires
 within-requires c κs = search needs
@@ -37,7 +36,7 @@ enum-known-w c = search needs
 settle-requires : tie.Need-settle-requires
 settle-requires c κs =
     let start = c .before .before .before .before .before .before .before .before .before .before .before .before .before in
-    ready (images (start .args .image .now) (start .args .table .now)) (start .args .c) _ (sym (c .before .before .before .before .before .before .before .before .order .ensures) ∙ sym (c .before .before .before .before .before .before .before .number .ensures) ∙ c .before .before .before .before .before .before .if1 .left)
+    ready (images (start .args .grants .now) (start .args .loans .now)) (start .args .c) _ (sym (c .before .before .before .before .before .before .before .before .order .ensures) ∙ sym (c .before .before .before .before .before .before .before .number .ensures) ∙ c .before .before .before .before .before .before .if1 .left)
     (sym (c .before .before .before .before .before .within .ensures) ∙ c .before .before .before .w .given .1)
 
 same-length-3 : tie.Need-same-length-3
@@ -49,7 +48,7 @@ same-length-4 c = search needs
 returns-2 : tie.Need-returns-2
 returns-2 c =
     let start = c .before .before .before .before .before .before .before .before .before .before in
-    ran-beyond chainUnit (images (start .args .image .now) (start .args .table .now)) chain-guards (start .args .c) (sym (c .before .before .before .before .before .order .ensures) ∙ sym (c .before .before .before .before .number .ensures) ∙ c .before .before .before .if1 .left)
+    ran-beyond chainUnit (images (start .args .grants .now) (start .args .loans .now)) (start .args .c) (sym (c .before .before .before .before .before .order .ensures) ∙ sym (c .before .before .before .before .number .ensures) ∙ c .before .before .before .if1 .left)
     (sym (c .before .before .within .ensures) ∙ c .enum-told .given .1)
 
 same-length-5 : tie.Need-same-length-5
@@ -61,7 +60,7 @@ same-length-6 c = search needs
 returns-3 : tie.Need-returns-3
 returns-3 c =
     let start = c .before .before .before .before .before .before .before .before .before .before .before .before .before .before .before .before .before .before in
-    ran-judged chainUnit (images (start .args .image .now) (start .args .table .now)) chain-guards (start .args .c) _ _ _ (sym (c .before .before .before .before .before .before .before .before .before .before .before .before .before .order .ensures) ∙ sym (c .before .before .before .before .before .before .before .before .before .before .before .before .number .ensures) ∙ c .before .before .before .before .before .before .before .before .before .before .before .if1 .left)
+    ran-judged chainUnit (images (start .args .grants .now) (start .args .loans .now)) (start .args .c) _ _ _ (sym (c .before .before .before .before .before .before .before .before .before .before .before .before .before .order .ensures) ∙ sym (c .before .before .before .before .before .before .before .before .before .before .before .before .number .ensures) ∙ c .before .before .before .before .before .before .before .before .before .before .before .if1 .left)
     (sym (c .before .before .before .before .before .before .before .before .before .before .within .ensures) ∙ c .before .before .before .before .before .before .before .before .w .given .1) (c .before .before .before .before .settle .ensures)
 
 pub offer-spec : {M : Type 1} → statement M

@@ -34,7 +34,7 @@ same-length c = search needs
 returns : tie.Need-returns
 returns c =
     let q = c .before .before .before .before .before .before .before .before .before .before .before .before .before .before in
-    grants-delete (q .args .image .now) (q .pre .0) (λ i h. omega (arith, c .before .before .before .before .before .before .before .before .before .before .before .before .before .slice-known .given i)) (q .args .on .0) (c .before .before .before .before .before .before .before .before .number .result) _ _ _ (q .pre .1) (c .before .before .before .before .before .before .before .before .number .ensures) (c .before .before .before .before .before .before .before .before .before .before .before .remove .ensures) (c .before .before .before .before .before .before .clear-each .ensures) (c .before .before .clear-each2 .ensures)
+    grants-delete (q .args .grants .now) (q .pre .0) (λ i h. omega (arith, c .before .before .before .before .before .before .before .before .before .before .before .before .before .slice-known .given i)) (q .args .on .0) (c .before .before .before .before .before .before .before .before .number .result) _ _ _ (q .pre .1) (c .before .before .before .before .before .before .before .before .number .ensures) (c .before .before .before .before .before .before .before .before .before .before .before .remove .ensures) (c .before .before .before .before .before .before .clear-each .ensures) (c .before .before .clear-each2 .ensures)
 
 pub drop-item-spec : {M : Type 1} → statement M
 drop-item-spec =

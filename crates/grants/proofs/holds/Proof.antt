@@ -14,7 +14,7 @@ returns : tie.Need-returns
 returns c =
     let q = c .before .before .before in
     let k = c .before .place .result in
-    grants-held (q .args .image .now) (q .args .who .0) (q .args .on .0) (q .args .right .0) k (c .before .place .ensures .0) (omega (arith, c .before .before .shared-slice-known .given k))
+    grants-held (q .args .grants .now) (q .args .who .0) (q .args .on .0) (q .args .right .0) k (c .before .place .ensures .0) (omega (arith, c .before .before .shared-slice-known .given k))
 
 pub holds-spec : {M : Type 1} → statement M
 holds-spec = tie.close (tie.spec place-requires shared-slice-read-result returns)

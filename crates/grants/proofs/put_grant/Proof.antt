@@ -16,8 +16,8 @@ number-requires c κs = search needs
 with-requires : tie.Need-with-requires
 with-requires c κs = search needs
 
-slice-write-image : tie.Need-slice-write-image
-slice-write-image c = search needs
+slice-write-grants : tie.Need-slice-write-grants
+slice-write-grants c = search needs
 
 same-length : tie.Need-same-length
 same-length c = search needs
@@ -25,7 +25,7 @@ same-length c = search needs
 returns : tie.Need-returns
 returns c =
     let q = c .before .before .before .before .before in
-    grants-allow (q .args .image .now) (q .pre .0) (λ i h. omega (arith, c .before .before .before .before .slice-known .given i)) (q .args .to .0) (q .args .on .0) (q .args .right .0) (q .pre .1) (q .pre .2) (q .pre .3) (c .before .before .before .place .result) (c .before .before .before .place .ensures .0) (q .args .depth .0) (c .before .number .result) _ (q .pre .4) (c .before .number .ensures) (c .with .ensures)
+    grants-allow (q .args .grants .now) (q .pre .0) (λ i h. omega (arith, c .before .before .before .before .slice-known .given i)) (q .args .to .0) (q .args .on .0) (q .args .right .0) (q .pre .1) (q .pre .2) (q .pre .3) (c .before .before .before .place .result) (c .before .before .before .place .ensures .0) (q .args .depth .0) (c .before .number .result) _ (q .pre .4) (c .before .number .ensures) (c .with .ensures)
 
 pub put-grant-spec : {M : Type 1} → statement M
 put-grant-spec =
@@ -35,6 +35,6 @@ put-grant-spec =
     slice-read-with
     number-requires
     with-requires
-    slice-write-image
+    slice-write-grants
     same-length
     returns)

@@ -21,7 +21,7 @@ same-length c = search needs
 returns : tie.Need-returns
 returns c =
     let q = c .before .before .before .before .before .before .before .before .before .before .before in
-    grants-create (q .args .image .now) _ _ (q .args .by .0) (q .args .on .0) _ _ (q .pre .0) (q .pre .2) (c .before .before .before .before .edit .ensures) (c .before .before .before .zero .ensures) (c .before .before .before .before .before .before .before .before .insert .ensures) (c .before .before .put-grant .ensures)
+    grants-create (q .args .grants .now) _ _ (q .args .by .0) (q .args .on .0) _ _ (q .pre .0) (q .pre .2) (c .before .before .before .before .edit .ensures) (c .before .before .before .zero .ensures) (c .before .before .before .before .before .before .before .before .insert .ensures) (c .before .before .put-grant .ensures)
 
 pub put-item-spec : {M : Type 1} → statement M
 put-item-spec =

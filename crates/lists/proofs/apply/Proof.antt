@@ -1,5 +1,5 @@
 use borrow.Author.Needs.{needs}
-use Rattle.model.specs.Unit.{lists}
+use Rattle.layouts.specs.Layouts.{lists}
 use Rattle.lists.proofs.apply.Statement.{statement}
 use Rattle.lists.proofs.apply.Tie as tie
 

@@ -1,6 +1,6 @@
 use borrow.Author.Needs.{needs}
-use Rattle.model.specs.Unit.{lists}
-use Rattle.model.proofs.Ends.{inspected}
+use Rattle.layouts.specs.Layouts.{lists}
+use Rattle.layouts.proofs.Ends.{inspected}
 use Rattle.lists.proofs.inspect.Statement.{statement}
 use Rattle.lists.proofs.inspect.Tie as tie
 

@@ -1,5 +1,6 @@
 -- The chunk is taken part after part: the pieces done are its first bytes (`Through`), whether all were taken or a write failed.
-use Rattle.commands.specs.Session.{unitsIn, session}
+use Rattle.reader.specs.Replies.{unitsIn}
+use Rattle.stream.specs.Session.{session}
 use Rattle.program.proofs.Parts.{Through, through-start, through-next, through-end, through-stop}
 use borrow.Author.Needs.{needs}
 use native.Mathlib.Omega.{arith}
@@ -10,13 +11,13 @@ use Rattle.program.proofs.answer.Statement.{statement}
 use Rattle.program.proofs.answer.Tie as tie
 
 abbrev Inv-loop : tie.InvT-loop
-Inv-loop list₀ row₀ image₀ table₀ buf₀ out₀ chunk next₀ i₀ list row image table buf out next i =
-    Through (session (next₀ .lines) (unitsIn list₀ row₀ image₀ table₀) buf₀ (next₀ .held))
-    (session (next .lines) (unitsIn list row image table) buf (next .held)) chunk i
+Inv-loop list₀ row₀ grants₀ loans₀ buf₀ out₀ chunk next₀ i₀ list row grants loans buf out next i =
+    Through (session (next₀ .lines) (unitsIn list₀ row₀ grants₀ loans₀) buf₀ (next₀ .held))
+    (session (next .lines) (unitsIn list row grants loans) buf (next .held)) chunk i
     × (length out ≡ length out₀)
 
 abbrev μ-loop : tie.MeasureT-loop
-μ-loop list₀ row₀ image₀ table₀ buf₀ out₀ chunk next₀ i₀ list row image table buf out next i = length chunk - i
+μ-loop list₀ row₀ grants₀ loans₀ buf₀ out₀ chunk next₀ i₀ list row grants loans buf out next i = length chunk - i
 
 loop-holds : tie.Need-loop-holds Inv-loop μ-loop
 loop-holds c = (through-start _ _, refl)

@@ -1,6 +1,7 @@
 -- Turn after turn: the run stands after the parts that were taken so far (`Reached`).
 use Rattle.lines.specs.Collect.{nothingHeld}
-use Rattle.commands.specs.Session.{unitsIn, session}
+use Rattle.reader.specs.Replies.{unitsIn}
+use Rattle.stream.specs.Session.{session}
 use Rattle.program.proofs.Parts.{Reached, reached-start, reached-next, reached-ended, reached-failed, reached-here}
 use borrow.Author.Needs.{needs}
 use mathlib.Core.Path.{_≡_, refl, _∙_}
@@ -9,13 +10,13 @@ use Rattle.program.proofs.read_all.Statement.{statement}
 use Rattle.program.proofs.read_all.Tie as tie
 
 abbrev Inv-loop : tie.InvT-loop
-Inv-loop list₀ row₀ image₀ table₀ buf₀ out₀ next₀ turns₀ list row image table buf out next turns =
-    Reached (session 0 (unitsIn list₀ row₀ image₀ table₀) buf₀ nothingHeld)
-    (session (next .lines) (unitsIn list row image table) buf (next .held))
+Inv-loop list₀ row₀ grants₀ loans₀ buf₀ out₀ next₀ turns₀ list row grants loans buf out next turns =
+    Reached (session 0 (unitsIn list₀ row₀ grants₀ loans₀) buf₀ nothingHeld)
+    (session (next .lines) (unitsIn list row grants loans) buf (next .held))
     × (length out ≡ length out₀)
 
 abbrev μ-loop : tie.MeasureT-loop
-μ-loop list₀ row₀ image₀ table₀ buf₀ out₀ next₀ turns₀ list row image table buf out next turns = turns
+μ-loop list₀ row₀ grants₀ loans₀ buf₀ out₀ next₀ turns₀ list row grants loans buf out next turns = turns
 
 start-requires : tie.Need-start-requires Inv-loop μ-loop
 start-requires c κs = search needs

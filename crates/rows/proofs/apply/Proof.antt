@@ -1,5 +1,5 @@
 use borrow.Author.Needs.{needs}
-use Rattle.model.specs.Unit.{rows}
+use Rattle.layouts.specs.Layouts.{rows}
 use Rattle.rows.proofs.apply.Statement.{statement}
 use Rattle.rows.proofs.apply.Tie as tie
 

@@ -1,8 +1,8 @@
 use mathlib.Core.Path.{sym, _∙_}
 use borrow.Author.Needs.{needs}
-use Rattle.model.specs.Unit.{rows}
+use Rattle.layouts.specs.Layouts.{rows}
 use Rattle.model.proofs.Commands.{asked-ranged}
-use Rattle.model.proofs.Ends.{readable, check-stops, check-beyond, check-says}
+use Rattle.layouts.proofs.Ends.{readable, check-stops, check-beyond, check-says}
 use Rattle.rows.proofs.check.Statement.{statement}
 use Rattle.rows.proofs.check.Tie as tie
 

@@ -1,7 +1,7 @@
 use borrow.Author.Needs.{needs}
-use Rattle.model.specs.Unit.{rows}
+use Rattle.layouts.specs.Layouts.{rows}
 use Rattle.model.specs.Commands.{rawOf}
-use Rattle.model.proofs.Ends.{facts-are}
+use Rattle.layouts.proofs.Ends.{facts-are}
 use Rattle.rows.proofs.facts.Statement.{statement}
 use Rattle.rows.proofs.facts.Tie as tie
 

@@ -2,11 +2,11 @@ use mathlib.Core.Path.{refl, _∙_, _≡_, ap}
 use native.Mathlib.Omega.{arith}
 use borrow.Author.Needs.{needs}
 use lib.ListN.{length, getD}
-use Rattle.model.specs.Unit.{rows}
-use Rattle.model.proofs.Unit.{rows-laws}
-use Rattle.model.proofs.Edits.{fresh-written}
-use Rattle.model.proofs.Ends.{fresh-length, fresh-done}
-use Rattle.model.proofs.Zeros.{zeroed-all}
+use Rattle.layouts.specs.Layouts.{rows}
+use Rattle.layouts.proofs.Layouts.{rows-laws}
+use Rattle.layouts.proofs.Edits.{fresh-written}
+use Rattle.layouts.proofs.Ends.{fresh-length, fresh-done}
+use Rattle.bits.proofs.Zeros.{zeroed-all}
 use Rattle.rows.proofs.fresh.Statement.{statement}
 use Rattle.rows.proofs.fresh.Tie as tie
 

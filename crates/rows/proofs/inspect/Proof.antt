@@ -1,6 +1,6 @@
 use borrow.Author.Needs.{needs}
-use Rattle.model.specs.Unit.{rows}
-use Rattle.model.proofs.Ends.{inspected}
+use Rattle.layouts.specs.Layouts.{rows}
+use Rattle.layouts.proofs.Ends.{inspected}
 use Rattle.rows.proofs.inspect.Statement.{statement}
 use Rattle.rows.proofs.inspect.Tie as tie
 

@@ -1,8 +1,8 @@
 use mathlib.Core.Path.{sym, _∙_}
 use borrow.Author.Tests.{not-true, not-false}
 use borrow.Author.Needs.{needs}
-use Rattle.model.specs.Unit.{rows}
-use Rattle.model.proofs.Ends.{order-length, order-broken, order-done}
+use Rattle.layouts.specs.Layouts.{rows}
+use Rattle.layouts.proofs.Ends.{order-length, order-broken, order-done}
 use Rattle.rows.proofs.order.Statement.{statement}
 use Rattle.rows.proofs.order.Tie as tie
 

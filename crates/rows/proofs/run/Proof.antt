@@ -1,7 +1,7 @@
 use mathlib.Core.Path.{sym, _∙_}
 use borrow.Author.Needs.{needs}
-use Rattle.model.specs.Unit.{rows, flatUnit}
-use Rattle.model.proofs.Ends.{flat-guards, readable, ran-stops, ran-beyond, ran-judged, ran-ranged}
+use Rattle.layouts.specs.Layouts.{rows, flatUnit}
+use Rattle.layouts.proofs.Ends.{readable, ran-stops, ran-beyond, ran-judged, ran-ranged}
 use Rattle.rows.proofs.run.Statement.{statement}
 use Rattle.rows.proofs.run.Tie as tie
 
@@ -17,7 +17,7 @@ same-length c = search needs
 returns : tie.Need-returns
 returns c =
     let start = c .before .before .before .before .before in
-    ran-stops (flatUnit rows) (start .args .image .now) (flat-guards rows) (start .args .c) _ (c .before .before .order .ensures) (λ z. c .if1 .taken (c .before .number .ensures ∙ z))
+    ran-stops (flatUnit rows) (start .args .image .now) (start .args .c) _ (c .before .before .order .ensures) (λ z. c .if1 .taken (c .before .number .ensures ∙ z))
 
 within-requires : tie.Need-within-requires
 within-requires c κs = search needs
@@ -44,7 +44,7 @@ returns-2 : tie.Need-returns-2
 returns-2 c =
     let start = c .before .before .before .before .before .before .before .before in
     let fine = c .before .before .before in
-    ran-beyond (flatUnit rows) (start .args .image .now) (flat-guards rows) (start .args .c) (sym (fine .before .before .order .ensures) ∙ sym (fine .before .number .ensures) ∙ fine .if1 .left) (sym (c .before .before .within .ensures) ∙ c .enum-told .given .1)
+    ran-beyond (flatUnit rows) (start .args .image .now) (start .args .c) (sym (fine .before .before .order .ensures) ∙ sym (fine .before .number .ensures) ∙ fine .if1 .left) (sym (c .before .before .within .ensures) ∙ c .enum-told .given .1)
 
 same-length-3 : tie.Need-same-length-3
 same-length-3 c = search needs
@@ -53,7 +53,7 @@ returns-3 : tie.Need-returns-3
 returns-3 c =
     let start = c .before .before .before .before .before .before .before .before .before .before .before .before .before in
     let fine = c .before .before .before .before .before .before .before .before in
-    ran-judged (flatUnit rows) (start .args .image .now) (flat-guards rows) (start .args .c) _ _ _ (sym (fine .before .before .order .ensures) ∙ sym (fine .before .number .ensures) ∙ fine .if1 .left)
+    ran-judged (flatUnit rows) (start .args .image .now) (start .args .c) _ _ _ (sym (fine .before .before .order .ensures) ∙ sym (fine .before .number .ensures) ∙ fine .if1 .left)
     (sym (c .before .before .before .before .before .before .before .within .ensures) ∙ c .before .before .before .before .before .w .given .1) (c .before .before .settle .ensures)
 
 pub run-spec : {M : Type 1} → statement M

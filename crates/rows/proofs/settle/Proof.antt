@@ -1,7 +1,7 @@
 use borrow.Author.Needs.{needs}
-use Rattle.model.specs.Unit.{rows, flatUnit}
+use Rattle.layouts.specs.Layouts.{rows, flatUnit}
 use Rattle.model.specs.Commands.{rawOf}
-use Rattle.model.proofs.Ends.{judged-stops, judged-goes}
+use Rattle.layouts.proofs.Ends.{judged-stops, judged-goes}
 use Rattle.rows.proofs.settle.Statement.{statement}
 use Rattle.rows.proofs.settle.Tie as tie
 

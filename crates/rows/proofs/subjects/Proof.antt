@@ -1,7 +1,7 @@
 use mathlib.Core.Path.{sym, _∙_}
 use borrow.Author.Needs.{needs}
-use Rattle.model.specs.Unit.{rows}
-use Rattle.model.proofs.Ends.{readable, subjects-stop, subjects-are}
+use Rattle.layouts.specs.Layouts.{rows}
+use Rattle.layouts.proofs.Ends.{readable, subjects-stop, subjects-are}
 use Rattle.rows.proofs.subjects.Statement.{statement}
 use Rattle.rows.proofs.subjects.Tie as tie
 

@@ -1,6 +1,6 @@
 use borrow.Author.Needs.{needs}
-use Rattle.model.specs.Search.{gain}
-use Rattle.model.proofs.Search.{arrive-here, arrive-else}
+use Rattle.delegation.specs.Search.{gain}
+use Rattle.delegation.proofs.Search.{arrive-here, arrive-else}
 use mathlib.Core.Path.{sym, _∙_}
 use lib.ListN.{getD}
 use Rattle.search.proofs.arrive_of.Statement.{statement}

@@ -3,7 +3,7 @@ use native.Mathlib.Omega.{arith}
 use mathlib.Core.Path.{_≡_, _∙_}
 use Prim.Native.Nat.{_+_, _*_}
 use Rattle.model.specs.Answers.{foundSaid}
-use Rattle.model.specs.Search.{foundOf, chainOf}
+use Rattle.delegation.specs.Search.{foundOf, chainOf}
 use Rattle.search.proofs.best.Statement.{statement}
 use Rattle.search.proofs.best.Tie as tie
 

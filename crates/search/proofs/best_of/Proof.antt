@@ -2,9 +2,9 @@ use borrow.Author.Needs.{needs}
 use native.Mathlib.Omega.{arith}
 use mathlib.Core.Path.{_≡_, refl, _∙_}
 use Prim.Native.Nat.{ℕ, _-_, _≤_}
-use Rattle.model.specs.Sets.{most, firstAt}
-use Rattle.model.specs.Search.{column}
-use Rattle.model.proofs.Indexed.{first-le}
+use Rattle.bits.specs.Sets.{most, firstAt}
+use Rattle.delegation.specs.Search.{column}
+use Rattle.bits.proofs.Indexed.{first-le}
 use Rattle.search.proofs.Rounds.{best-more}
 use Rattle.search.proofs.best_of.Statement.{statement}
 use Rattle.search.proofs.best_of.Tie as tie

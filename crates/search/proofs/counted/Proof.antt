@@ -2,7 +2,7 @@ use borrow.Author.Needs.{needs}
 use native.Mathlib.Omega.{arith}
 use mathlib.Core.Path.{sym, _∙_}
 use borrow.Author.Tests.{eq-eqb, ne-eqb}
-use Rattle.model.specs.Loans.{keyOf}
+use Rattle.delegation.specs.Loans.{keyOf}
 use Rattle.search.proofs.counted.Statement.{statement}
 use Rattle.search.proofs.counted.Tie as tie
 

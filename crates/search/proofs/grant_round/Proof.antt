@@ -4,8 +4,8 @@ use native.Mathlib.Omega.{arith}
 use mathlib.Core.Path.{_≡_, refl}
 use Prim.Native.Nat.{ℕ, _+_, _-_, _≤_, _<_}
 use lib.ListN.{length, getD, length-set}
-use Rattle.model.specs.Search.{height, grantRound}
-use Rattle.model.proofs.Indexed.{tabulate-ext}
+use Rattle.delegation.specs.Search.{height, grantRound}
+use Rattle.bits.proofs.Indexed.{tabulate-ext}
 use Rattle.search.proofs.Rounds.{fill-more}
 use Rattle.search.proofs.grant_round.Statement.{statement}
 use Rattle.search.proofs.grant_round.Tie as tie

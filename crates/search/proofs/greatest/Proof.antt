@@ -1,4 +1,4 @@
-use Rattle.model.specs.Sets.{most}
+use Rattle.bits.specs.Sets.{most}
 use Rattle.search.proofs.Rounds.{most-more}
 use borrow.Author.Needs.{needs}
 use native.Mathlib.Omega.{arith}

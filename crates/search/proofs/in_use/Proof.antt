@@ -1,7 +1,7 @@
 use borrow.Author.Needs.{needs}
 use mathlib.Core.Path.{sym, ap, _∙_}
-use Rattle.model.specs.declared.loan.Header.{Header}
-use Rattle.model.proofs.Loans.{header-read}
+use Rattle.delegation.specs.declared.loan.Header.{Header}
+use Rattle.delegation.proofs.Loans.{header-read}
 use Rattle.search.proofs.in_use.Statement.{statement}
 use Rattle.search.proofs.in_use.Tie as tie
 

@@ -1,5 +1,5 @@
 use borrow.Author.Needs.{needs}
-use Rattle.model.specs.Search.{lenderTo}
+use Rattle.delegation.specs.Search.{lenderTo}
 use Rattle.search.proofs.Trace.{lender-here, lender-else}
 use native.Mathlib.Omega.{arith}
 use mathlib.Core.Path.{_≡_, refl, sym, ap, _∙_}

@@ -1,8 +1,8 @@
 use borrow.Author.Needs.{needs}
 use lib.ListN.{getD-replicate, length, getD, length-set}
-use Rattle.model.specs.Sets.{most}
-use Rattle.model.specs.Search.{arriving, nextRound}
-use Rattle.model.proofs.Indexed.{tabulate-ext}
+use Rattle.bits.specs.Sets.{most}
+use Rattle.delegation.specs.Search.{arriving, nextRound}
+use Rattle.bits.proofs.Indexed.{tabulate-ext}
 use Rattle.search.proofs.Rounds.{raise-more}
 use native.Mathlib.Omega.{arith}
 use mathlib.Core.Path.{_≡_, refl, ap, _∙_}

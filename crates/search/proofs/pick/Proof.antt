@@ -1,7 +1,7 @@
 use lib.Dec.{eqb}
 use lib.Seq.{take-all}
-use Rattle.model.specs.Sets.{keep}
-use Rattle.model.specs.Loans.{keyOf}
+use Rattle.bits.specs.Sets.{keep}
+use Rattle.delegation.specs.Loans.{keyOf}
 use Rattle.search.specs.Picked.{Picked}
 use borrow.Author.Needs.{needs}
 use native.Mathlib.Omega.{arith}

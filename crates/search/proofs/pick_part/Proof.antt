@@ -1,6 +1,6 @@
 use lib.Dec.{eqb}
 use mathlib.Core.Path.{subst, _≡_, refl}
-use Rattle.model.specs.Loans.{keyOf}
+use Rattle.delegation.specs.Loans.{keyOf}
 use Rattle.search.specs.Picked.{Picked}
 use Rattle.search.proofs.Picking.{pick-more}
 use borrow.Author.Needs.{needs}

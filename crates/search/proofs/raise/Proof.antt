@@ -1,8 +1,8 @@
 use borrow.Author.Needs.{needs}
 use Prim.Native.Nat.{max}
 use lib.Seq.{set-getD}
-use Rattle.model.specs.Loans.{borrower}
-use Rattle.model.specs.Search.{gain}
+use Rattle.delegation.specs.Loans.{borrower}
+use Rattle.delegation.specs.Search.{gain}
 use native.Mathlib.Omega.{arith}
 use mathlib.Core.Path.{_≡_, sym, ap, _∙_}
 use lib.ListN.{getD, set}

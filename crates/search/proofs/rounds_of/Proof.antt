@@ -3,8 +3,8 @@ use mathlib.Core.List.{List, []}
 use Prim.Native.Nat.{max, ℕ, _+_, _-_, _≤_, _<_}
 use lib.ListN.{getD-replicate, length, getD, length-set}
 use lib.Seq.{getD-set-other}
-use Rattle.model.specs.Sets.{most, tabulate}
-use Rattle.model.specs.Search.{nextRound, roundAt}
+use Rattle.bits.specs.Sets.{most, tabulate}
+use Rattle.delegation.specs.Search.{nextRound, roundAt}
 use Rattle.search.proofs.Rounds.{fill-more, most-more, round-more}
 use Rattle.search.proofs.Settling.{settled-early, settled-last}
 use native.Mathlib.Omega.{arith}

@@ -1,6 +1,6 @@
 use lib.Dec.{eqb}
-use Rattle.model.specs.Sets.{keep}
-use Rattle.model.specs.Loans.{keyOf}
+use Rattle.bits.specs.Sets.{keep}
+use Rattle.delegation.specs.Loans.{keyOf}
 use Rattle.search.proofs.Picking.{pass-more, or-none}
 use borrow.Author.Needs.{needs}
 use native.Mathlib.Omega.{arith}

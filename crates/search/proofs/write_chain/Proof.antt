@@ -4,7 +4,7 @@ use native.Mathlib.Omega.{arith}
 use mathlib.Core.Path.{_≡_, sym, ap, _∙_}
 use Prim.Native.Nat.{suc, _-_, _<_}
 use lib.ListN.{length, getD, drop, set, replicate, length-set}
-use Rattle.model.specs.Search.{lenderTo, traced}
+use Rattle.delegation.specs.Search.{lenderTo, traced}
 use Rattle.search.proofs.Trace.{lender-lt, traced-step, traced-end, padding}
 use Rattle.search.proofs.write_chain.Statement.{statement}
 use Rattle.search.proofs.write_chain.Tie as tie

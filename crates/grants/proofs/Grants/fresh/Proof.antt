@@ -1,8 +1,8 @@
 use native.Mathlib.Omega.{arith}
 use mathlib.Core.Path.{refl, sym}
-use Rattle.model.specs.Unit.{grantBytes}
-use Rattle.model.proofs.Unit.{bytes-laws}
-use Rattle.model.proofs.Edits.{fresh-cells}
+use Rattle.layouts.specs.Layouts.{grantBytes}
+use Rattle.layouts.proofs.Layouts.{bytes-laws}
+use Rattle.layouts.proofs.Edits.{fresh-cells}
 use Rattle.grants.proofs.Grants.fresh.Statement.{statement}
 use Rattle.grants.proofs.Grants.fresh.Tie as tie
 

@@ -32,7 +32,7 @@ hides-requires c κs = simp (length-take, length-drop) (omega arith)
 returns : tie.Need-returns
 returns c =
     let q = c .before .before .before .before in
-    item-passes (q .args .image .now) (q .args .on) (q .pre .1) (λ i. omega (arith, c .before .before .before .shared-slice-known .given i)) _ (q .args .masks .now) (q .pre .2) (c .hides .ensures)
+    item-passes (q .args .grants .now) (q .args .on) (q .pre .1) (λ i. omega (arith, c .before .before .before .shared-slice-known .given i)) _ (q .args .masks .now) (q .pre .2) (c .hides .ensures)
 
 pub item-ok-spec : {M : Type 1} → statement M
 item-ok-spec =

@@ -4,18 +4,18 @@ use mathlib.Core.Path.{_≡_, sym, _∙_}
 use Prim.Native.Nat.{_-_, _≤_}
 use mathlib.Core.Bool.{true}
 use borrow.Author.Tests.{not-true, not-false}
-use Rattle.model.specs.Sets.{allBelow}
-use Rattle.model.specs.Unit.{grantBytes}
-use Rattle.model.proofs.Indexed.{below-none, below-step, below-stop}
-use Rattle.model.proofs.Order.{blockOk}
+use Rattle.bits.specs.Sets.{allBelow}
+use Rattle.layouts.specs.Layouts.{grantBytes}
+use Rattle.bits.proofs.Indexed.{below-none, below-step, below-stop}
+use Rattle.layouts.specs.Order.{blockOk}
 use Rattle.grants.proofs.scan.items_ok.Statement.{statement}
 use Rattle.grants.proofs.scan.items_ok.Tie as tie
 
 abbrev Inv-loop : tie.InvT-loop
-Inv-loop image masks on₀ on = (on ≤ 64) × (allBelow on (blockOk grantBytes image 4096) ≡ true)
+Inv-loop grants masks on₀ on = (on ≤ 64) × (allBelow on (blockOk grantBytes grants 4096) ≡ true)
 
 abbrev μ-loop : tie.MeasureT-loop
-μ-loop image masks on₀ on = 64 - on
+μ-loop grants masks on₀ on = 64 - on
 
 loop-holds : tie.Need-loop-holds Inv-loop μ-loop
 loop-holds c = (search needs, below-none _)
@@ -25,7 +25,7 @@ item-ok-requires c κs = search needs
 
 returns : tie.Need-returns Inv-loop μ-loop
 returns c =
-    sym (below-stop 64 (blockOk grantBytes (c .before .before .before .before .before .args .image .now) 4096) (c .before .before .before .loop .on) (search needs) (sym (c .before .item-ok .ensures) ∙ not-true _ (c .if1 .taken)))
+    sym (below-stop 64 (blockOk grantBytes (c .before .before .before .before .before .args .grants .now) 4096) (c .before .before .before .loop .on) (search needs) (sym (c .before .item-ok .ensures) ∙ not-true _ (c .if1 .taken)))
 
 add-on : tie.Need-add-on Inv-loop μ-loop
 add-on c = search needs

@@ -5,9 +5,9 @@ use Prim.Native.Nat.{_-_, _≤_}
 use lib.ListN.{length, drop, getD, drop-of-length-le}
 use mathlib.Core.Bool.{_&&_}
 use lib.Dec.{eqb}
-use Rattle.model.specs.Sets.{all}
-use Rattle.model.proofs.Indexed.{all-next}
-use Rattle.model.proofs.Scan.{scan-next, scan-end}
+use Rattle.bits.specs.Sets.{all}
+use Rattle.bits.proofs.Indexed.{all-next}
+use Rattle.bits.proofs.Scan.{scan-next, scan-end}
 use Rattle.model.proofs.Invariant.{eqb-sym}
 use Rattle.loans.proofs.order.are_zero.Statement.{statement}
 use Rattle.loans.proofs.order.are_zero.Tie as tie

@@ -6,11 +6,11 @@ use lib.ListN.{length, take, drop}
 use mathlib.Core.Bool.{_&&_}
 use lib.Dec.{eqb}
 use borrow.Author.Tests.{eq-eqb, ne-eqb, lt-leb, not-true, not-false}
-use Rattle.model.specs.Sets.{all}
+use Rattle.bits.specs.Sets.{all}
 use Rattle.model.specs.Commands.{mostLoans}
-use Rattle.model.specs.Loans.{tableWords, countOf, rising, loansInOrder}
-use Rattle.model.specs.declared.loan.Header.{Header}
-use Rattle.loans.specs.Table.{unmasked, shaped, namesLive}
+use Rattle.delegation.specs.Loans.{loanWords, countOf, rising, loansInOrder}
+use Rattle.delegation.specs.declared.loan.Header.{Header}
+use Rattle.loans.specs.Words.{unmasked, shaped, namesLive}
 use Rattle.loans.proofs.Parts.{order-parts}
 use Rattle.loans.proofs.order.in_order.Statement.{statement}
 use Rattle.loans.proofs.order.in_order.Tie as tie
@@ -20,7 +20,7 @@ parts : (c : tie.After-in-use)
     → let t = c .before .before .before .before .before .before .args .loans .now in
     let live = unmasked (c .before .before .before .before .before .before .args .masks .now) in
     let p = take (c .in-use .result + 1 - 1) (drop 1 t) in
-    eqb (length t) tableWords && loansInOrder live t
+    eqb (length t) loanWords && loansInOrder live t
     ≡ rising p && all shaped p && all (namesLive live) p && all (eqb 0) (take (length t - (c .in-use .result + 1)) (drop (c .in-use .result + 1) t))
 parts c =
     let a = c .before .before .before .before .before .before .args in
@@ -36,7 +36,7 @@ returns-2 : tie.Need-returns-2
 unfolding loansInOrder
 returns-2 c =
     let t = c .before .before .before .before .before .args .loans .now in
-    rw (eq-eqb (length t) tableWords (c .before .before .before .if1 .left), lt-leb (countOf t) mostLoans (omega (arith, ap (λ (h : Header). h .count) (c .before .before .header-of .ensures))))
+    rw (eq-eqb (length t) loanWords (c .before .before .before .if1 .left), lt-leb (countOf t) mostLoans (omega (arith, ap (λ (h : Header). h .count) (c .before .before .header-of .ensures))))
 
 in-use-requires : tie.Need-in-use-requires
 in-use-requires c κs = search needs

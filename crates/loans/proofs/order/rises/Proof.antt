@@ -5,9 +5,9 @@ use Prim.Native.Nat.{_-_, _≤_}
 use lib.ListN.{length, drop, length-drop}
 use mathlib.Core.Bool.{_&&_}
 use lib.Dec.{eqb}
-use Rattle.model.specs.Loans.{rising}
-use Rattle.model.proofs.Rising.{rising-next, rising-short}
-use Rattle.model.proofs.Scan.{scan-next, scan-end}
+use Rattle.delegation.specs.Loans.{rising}
+use Rattle.delegation.proofs.Rising.{rising-next, rising-short}
+use Rattle.bits.proofs.Scan.{scan-next, scan-end}
 use Rattle.loans.proofs.order.rises.Statement.{statement}
 use Rattle.loans.proofs.order.rises.Tie as tie
 

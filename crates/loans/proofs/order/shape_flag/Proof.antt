@@ -3,7 +3,7 @@ use mathlib.Core.Path.{sym, _∙_}
 use borrow.Author.Tests.{eq-eqb, ne-eqb}
 use mathlib.Core.Bool.{and-true, and-false}
 use lib.Dec.{ltb}
-use Rattle.model.specs.Loans.{loanRight}
+use Rattle.delegation.specs.Loans.{loanRight}
 use Rattle.loans.proofs.Loops.{high-zero}
 use Rattle.loans.proofs.order.shape_flag.Statement.{statement}
 use Rattle.loans.proofs.order.shape_flag.Tie as tie

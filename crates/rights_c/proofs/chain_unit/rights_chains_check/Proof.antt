@@ -1,8 +1,8 @@
 use borrow.Author.Needs.{needs}
 use mathlib.Core.Path.{ap, _∙_}
 use Rattle.model.specs.Answers.{Found}
-use Rattle.model.specs.Images.{images}
-use Rattle.model.proofs.ChainEnds.{chain-told}
+use Rattle.delegation.specs.Images.{images}
+use Rattle.delegation.proofs.ChainEnds.{chain-told}
 use Rattle.rights_c.proofs.chain_unit.rights_chains_check.Statement.{statement}
 use Rattle.rights_c.proofs.chain_unit.rights_chains_check.Tie as tie
 
@@ -22,7 +22,7 @@ returns : tie.Need-returns
 returns c =
     let q = c .before .before .before .before .before .before .before .before .before .args in
     let e = c .before .before .before .before .check .ensures in
-    let r = chain-told (images (q .image .now) (q .table .now)) (q .chain .now) (q .who) (q .on) (q .right) _ (e .0) in
+    let r = chain-told (images (q .grants .now) (q .loans .now)) (q .chain .now) (q .who) (q .on) (q .right) _ (e .0) in
     let f = c .before .values .ensures in
     (c .chain-number .ensures ∙ r .0, f .0 ∙ ap (λ (x : Found). x .depth) (r .1), f .1 ∙ ap (λ (x : Found). x .persons) (r .1), e .1, e .2)
 

@@ -1,8 +1,8 @@
 use mathlib.Core.Path.{refl, sym}
 use native.Mathlib.Omega.{arith}
-use Rattle.model.specs.Unit.{rows}
-use Rattle.model.proofs.Unit.{rows-laws}
-use Rattle.model.proofs.Edits.{fresh-cells}
+use Rattle.layouts.specs.Layouts.{rows}
+use Rattle.layouts.proofs.Layouts.{rows-laws}
+use Rattle.layouts.proofs.Edits.{fresh-cells}
 use Rattle.rows.proofs.Rows.fresh.Statement.{statement}
 use Rattle.rows.proofs.Rows.fresh.Tie as tie
 

@@ -5,7 +5,8 @@ use native.Mathlib.Omega.{arith}
 use borrow.Author.Needs.{needs}
 use lib.Dec.{eqb}
 use lib.ListN.{length, getD}
-use Rattle.model.proofs.Scan.{orBelow, or-none, or-step}
+use Rattle.bits.specs.Bits.{orBelow}
+use Rattle.bits.proofs.Scan.{or-none, or-step}
 use Rattle.rows.proofs.scan.has_right.Statement.{statement}
 use Rattle.rows.proofs.scan.has_right.Tie as tie
 

@@ -1,7 +1,7 @@
 use mathlib.Core.Path.{refl, sym, _∙_}
 use borrow.Author.Needs.{needs}
-use Rattle.model.specs.Unit.{rows}
-use Rattle.model.proofs.Order.{order-no, order-yes}
+use Rattle.layouts.specs.Layouts.{rows}
+use Rattle.layouts.proofs.Order.{order-no, order-yes}
 use Rattle.rows.proofs.Bytes.{root-bit}
 use Rattle.rows.proofs.scan.in_order.Statement.{statement}
 use Rattle.rows.proofs.scan.in_order.Tie as tie

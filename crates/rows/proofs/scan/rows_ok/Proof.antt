@@ -1,8 +1,8 @@
 use borrow.Author.Needs.{needs}
 use mathlib.Core.Path.{sym, _∙_}
 use borrow.Author.Tests.{not-true, not-false}
-use Rattle.model.specs.Unit.{rows}
-use Rattle.model.proofs.Order.{two-parts}
+use Rattle.layouts.specs.Layouts.{rows}
+use Rattle.layouts.proofs.Order.{two-parts}
 use Rattle.rows.proofs.scan.rows_ok.Statement.{statement}
 use Rattle.rows.proofs.scan.rows_ok.Tie as tie
 

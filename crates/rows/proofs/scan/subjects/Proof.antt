@@ -3,11 +3,10 @@ use Prim.Native.Nat.{_%_, _-_, _≤_}
 use native.Mathlib.Omega.{arith}
 use borrow.Author.Needs.{needs}
 use lib.ListN.{set}
-use Rattle.model.specs.Bits.{ofBits}
-use Rattle.model.specs.Subjects.{subjectsOf}
-use Rattle.model.specs.Unit.{rows}
-use Rattle.model.proofs.Bits.{bits-step}
-use Rattle.model.proofs.Subjects.{isSubject}
+use Rattle.bits.specs.Bits.{ofBits}
+use Rattle.layouts.specs.Subjects.{subjectsOf, isSubject}
+use Rattle.layouts.specs.Layouts.{rows}
+use Rattle.bits.proofs.Bits.{bits-step}
 use Rattle.rows.proofs.scan.subjects.Statement.{statement}
 use Rattle.rows.proofs.scan.subjects.Tie as tie
 

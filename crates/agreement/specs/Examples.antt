@@ -1,0 +1,165 @@
+-- Document 01's handover examples E1 to E12, as one table over the journal.
+use mathlib.Core.Bool.{Bool, _&&_, cond}
+use mathlib.Core.List.{List, [], _∷_, _++_, map}
+use Prim.Native.Nat.{ℕ, zero, suc, _-_, min, max}
+use lib.ListN.{take, replicate}
+use lib.Dec.{eqb, leb}
+use Rattle.model.specs.declared.Command.{Command}
+use Rattle.model.specs.declared.Command.the-variants.{Create, Delete, Allow, Withdraw, Lend, Recall}
+use Rattle.bits.specs.Sets.{keep}
+use Rattle.model.specs.Answers.{Found, flat}
+use Rattle.layouts.specs.Machine.{answerOf}
+use Rattle.model.specs.Journal.{Grant, Loan, Journal, answered, hasGrant, fresh, run}
+use Rattle.layouts.specs.Layouts.{Layout, flatUnit, checkYes, lists, rows}
+use Rattle.delegation.specs.ChainUnit.{chainUnit, chainFound, chainBuffer}
+use Rattle.agreement.specs.Agreement.{Units, called, freshUnits, flatStep, fed}
+
+-- ---- every chain of a journal, listed: its persons, p0 first, the last of them, and its last allowance
+pub record Route : Type 0 where
+  pub persons : List ℕ
+  pub last : ℕ
+  pub allowance : ℕ
+
+abbrev pub route : List ℕ → ℕ → ℕ → Route
+route ps p a = record { persons = ps; last = p; allowance = a }
+
+abbrev pub start : Grant → Route
+start g = route (g .person ∷ []) (g .person) (g .depth)
+
+-- a loan that follows a route, and the route with it
+abbrev pub extends : Loan → Route → Bool
+extends l t = eqb (t .last) (l .lender) && leb 1 (t .allowance)
+
+abbrev pub onward : Loan → Route → Route
+onward l t = route (t .persons ++ (l .borrower ∷ [])) (l .borrower) (min (t .allowance - 1) (l .depth))
+
+unfoldable pub extended : List Loan → List Route → List Route
+extended [] ts = []
+extended (l ∷ ls) ts = map (onward l) (keep (extends l) ts) ++ extended ls ts
+
+module _ (j : Journal) (o r : ℕ) where
+  -- those with k loans on item o and right r, and with at most n
+  unfoldable pub routes : ℕ → List Route
+  routes zero = map start (keep (λ (g : Grant). eqb (g .item) o && eqb (g .right) r) (j .grants))
+  routes (suc k) = extended (keep (λ (l : Loan). eqb (l .item) o && eqb (l .right) r) (j .loans)) (routes k)
+
+  unfoldable pub routesTo : ℕ → List Route
+  routesTo zero = routes zero
+  routesTo (suc n) = routesTo n ++ routes (suc n)
+
+-- ---- questions and answers
+pub data Question : Type 0 where
+  asks : Command → Question
+  checks : ℕ → Question
+
+-- a command's number, or that it is passed over; a check's no, its yes without a depth, or its yes with the greatest allowance and the
+-- persons of every chain that has it
+pub data Said : Type 0 where
+  number : ℕ → Said
+  passed : Said
+  no : Said
+  flatYes : Said
+  yes : ℕ → List (List ℕ) → Said
+
+unfoldable pub highest : List Route → ℕ
+highest [] = 0
+highest (t ∷ ts) = max (t .allowance) (highest ts)
+
+unfoldable pub best : List Route → Said
+best [] = no
+best (t ∷ ts) =
+    yes (highest (t ∷ ts)) (map (λ (u : Route). u .persons) (keep (λ u. eqb (u .allowance) (highest (t ∷ ts))) (t ∷ ts)))
+
+-- 'on 9 and right 1'
+abbrev pub said : Journal → Question → Said
+said j (asks c) = number (answered j c)
+said j (checks p) = best (keep (λ t. eqb (t .last) p) (routesTo j 9 1 7))
+
+-- what lists and rows say: they pass over what they lack, and know grants alone
+abbrev pub flatSaid : Journal → Question → Said
+flatSaid j (asks c) = cond (flat c) (number (answered j c)) passed
+flatSaid j (checks p) = cond (hasGrant j p 9 1) flatYes no
+
+-- commands after the base, a question, what the journal and a chain unit say, and what lists and rows say
+pub record Example : Type 0 where
+  pub first : List Command
+  pub question : Question
+  pub expected : Said
+  pub flat : Said
+
+abbrev row : List Command → Question → Said → Said → Example
+row cs q s f = record { first = cs; question = q; expected = s; flat = f }
+
+-- 'Base: 0 creates 3, 4, 5, 9; allows 3 on 9, right 1, depth 2; 3 lends to 4 depth 1; 4 lends to 5 depth 0'
+unfoldable pub base : List Command
+base = Create 0 3 ∷ Create 0 4 ∷ Create 0 5 ∷ Create 0 9 ∷ Allow 0 3 9 1 2 ∷ Lend 3 4 9 1 1 ∷ Lend 4 5 9 1 0 ∷ []
+
+unfoldable pub examples : List Example
+examples =
+    -- E1 to E3
+    row [] (checks 5) (yes 0 ((3 ∷ 4 ∷ 5 ∷ []) ∷ [])) no
+    ∷ row [] (checks 4) (yes 1 ((3 ∷ 4 ∷ []) ∷ [])) no
+    ∷ row [] (checks 0) no no
+    -- E4
+    ∷ row [] (asks (Recall 3 4 9 1 0)) (number 0) passed
+    ∷ row (Recall 3 4 9 1 0 ∷ []) (checks 4) (yes 1 ((3 ∷ 4 ∷ []) ∷ [])) no
+    -- E5
+    ∷ row [] (asks (Withdraw 0 3 9 1)) (number 0) (number 0)
+    ∷ row (Withdraw 0 3 9 1 ∷ []) (checks 5) no no
+    ∷ row (Withdraw 0 3 9 1 ∷ Allow 0 3 9 1 1 ∷ []) (checks 4) (yes 0 ((3 ∷ 4 ∷ []) ∷ [])) no
+    ∷ row (Withdraw 0 3 9 1 ∷ Allow 0 3 9 1 1 ∷ []) (checks 5) no no
+    -- E6
+    ∷ row (Lend 3 5 9 1 5 ∷ []) (checks 5) (yes 1 ((3 ∷ 5 ∷ []) ∷ [])) no
+    -- E7
+    ∷ row (Delete 0 4 ∷ Create 0 4 ∷ []) (checks 4) no no
+    -- E8 and E9
+    ∷ row [] (asks (Create 0 63)) (number 0) (number 0)
+    ∷ row [] (asks (Create 0 64)) (number 3) (number 3)
+    ∷ row [] (asks (Create 0 3)) (number 6) (number 6)
+    -- E10 to E12
+    ∷ row [] (asks (Delete 3 0)) (number 7) (number 7)
+    ∷ row [] (asks (Allow 3 4 9 1 0)) (number 8) (number 8)
+    ∷ row [] (asks (Create 7 3)) (number 4) (number 4)
+    -- the base's one grant on 9 and right 1, and what is left of it in E5: what lists and rows can say yes to
+    ∷ row [] (checks 3) (yes 2 ((3 ∷ []) ∷ [])) flatYes
+    ∷ row (Withdraw 0 3 9 1 ∷ []) (checks 3) no no
+    ∷ row (Withdraw 0 3 9 1 ∷ Allow 0 3 9 1 1 ∷ []) (checks 3) (yes 1 ((3 ∷ []) ∷ [])) flatYes
+    ∷ []
+
+-- what the journal says after an example's commands
+abbrev pub outcome : Example → Said
+outcome e = said (run fresh (base ++ e .first)) (e .question)
+
+-- what lists and rows should say, by the journal of the commands that they have
+abbrev pub flatOutcome : Example → Said
+flatOutcome e = flatSaid (fed flatStep fresh (base ++ e .first)) (e .question)
+
+-- ---- the same of the units
+unfoldable pub calls : Units → List Command → Units
+calls u [] = u
+calls u (c ∷ cs) = calls (called u c) cs
+
+abbrev pub unitsAfter : Example → Units
+unitsAfter e = calls freshUnits (base ++ e .first)
+
+abbrev pub saidOf : Found → List ℕ → Said
+saidOf f buffer = cond (f .yes) (yes (f .depth) (take (f .persons) buffer ∷ [])) no
+
+-- the chain unit, with a chain buffer of zeros
+abbrev pub chainSaid : Units → Question → Said
+chainSaid u (asks c) = number (answerOf chainUnit (u .chains) c)
+chainSaid u (checks p) = saidOf (chainFound (u .chains) (replicate 8 0) p 9 1) (chainBuffer (u .chains) (replicate 8 0) p 9 1)
+
+abbrev pub chainOutcome : Example → Said
+chainOutcome e = chainSaid (unitsAfter e) (e .question)
+
+-- lists and rows
+abbrev pub unitSaid : Layout → List ℕ → Question → Said
+unitSaid L s (asks c) = cond (flat c) (number (answerOf (flatUnit L) s c)) passed
+unitSaid L s (checks p) = cond (checkYes L s p 9 1) flatYes no
+
+abbrev pub listOutcome : Example → Said
+listOutcome e = unitSaid lists (unitsAfter e .lists) (e .question)
+
+abbrev pub rowOutcome : Example → Said
+rowOutcome e = unitSaid rows (unitsAfter e .rows) (e .question)

@@ -1,0 +1,10 @@
+pub mod Sets
+pub mod Indexed
+pub mod Sweep
+pub mod Strides
+pub mod Bits
+pub mod Lowest
+pub mod Scan
+pub mod Cells
+pub mod Marks
+pub mod Zeros

@@ -1,0 +1,4 @@
+pub mod Sets
+pub mod Bits
+pub mod Cells
+pub mod Zeros

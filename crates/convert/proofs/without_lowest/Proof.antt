@@ -1,0 +1,14 @@
+use native.Mathlib.Omega.{arith}
+use borrow.Author.Needs.{needs}
+use Rattle.bits.proofs.Lowest.{without-lowest}
+use Rattle.convert.proofs.without_lowest.Statement.{statement}
+use Rattle.convert.proofs.without_lowest.Tie as tie
+
+sub-result : tie.Need-sub-result
+sub-result c = search needs
+
+returns : tie.Need-returns
+returns c = without-lowest 64 _ (c .pre) (omega arith)
+
+pub without-lowest-spec : {M : Type 1} → statement M
+without-lowest-spec = tie.close (tie.spec sub-result returns)

@@ -1,0 +1,97 @@
+-- The chain unit's images are a function of the journal, and its commands follow it.
+use mathlib.Core.Path.{_≡_, refl, sym, ap, _∙_}
+use mathlib.Core.Bool.{Bool, true, false, not, cond, false≢true}
+use mathlib.Core.List.{[]}
+use Prim.Native.Nat.{ℕ}
+use borrow.Author.Tests.{eqb-true, eq-eqb, le-leb, lt-ltb}
+use lib.ListN.{length}
+use lib.Dec.{eqb, leb}
+use Rattle.model.specs.declared.Command.{Command}
+use Rattle.model.specs.declared.Arguments.{Arguments}
+use Rattle.model.specs.Commands.{argumentsOf, fits}
+use Rattle.layouts.specs.Machine.{answerOf, stepOf}
+use Rattle.model.specs.Journal.{Grant, Loan, Journal, loanIn, sameGrant, lives, standing, facts, answered, fresh, apply, step}
+use Rattle.layouts.specs.Layouts.{grantBytes, grantCells, liveIn}
+use Rattle.delegation.specs.Loans.{wordOf, wordGood, loanWords, freshHeader, loansImage}
+use Rattle.delegation.specs.Images.{images, standingIn}
+use Rattle.delegation.specs.ChainUnit.{chainGuarded, chainUnit, chainFacts, chainAfter, chainFresh}
+use Rattle.bits.proofs.Sets.{fst, snd, both, by-cases, find, any-cong, all-mono}
+use Rattle.model.proofs.Commands.{ranged-command}
+use Rattle.model.proofs.Invariant.{same-grant, ranged, sound, Inv, rangedLoan, soundLoan, LoanInv, loans-ranged}
+use Rattle.model.proofs.Answers.{table-same}
+use Rattle.layouts.proofs.Layouts.{bytes-laws, place-same, live-of, bit-at-of, length-of, held-of, order-of, fresh-of}
+use Rattle.delegation.proofs.Loans.{word-fields, wordOf-lt, sorted, rising-sorted, all-sorted, word-in, used-of, count-of, length-loans, order-loans}
+use Rattle.model.proofs.Steps.{Kept}
+use Rattle.delegation.proofs.Steps.{grantsOf, headerFor, imagesOf, few, few-sorted, chain-after}
+
+-- ---- in order
+word-good : (j : Journal) (l : Loan) → soundLoan (lives j) l ≡ true → wordGood (liveIn grantBytes (grantsOf j)) (wordOf l) ≡ true
+word-good j l h =
+    let r : rangedLoan l ≡ true = search (fst, snd) in
+    let z : not (eqb (l .right) 0) ≡ true = search (fst, snd) in
+    let a : leb (l .lender) 63 ≡ true = search (fst, snd) in
+    let b : leb (l .item) 63 ≡ true = search (fst, snd) in
+    let c : leb (l .borrower) 63 ≡ true = search (fst, snd) in
+    let a′ : lives j (l .lender) ≡ true = search (fst, snd) in
+    let b′ : lives j (l .item) ≡ true = search (fst, snd) in
+    let c′ : lives j (l .borrower) ≡ true = search (fst, snd) in
+    let f = word-fields l r in
+    rw (f .0, f .1, f .2, f .3)
+    (both (both (both (both (lt-ltb (wordOf l) 16777216 (wordOf-lt l r)) z) (live-of grantBytes bytes-laws j (l .lender) a ∙ a′))
+    (live-of grantBytes bytes-laws j (l .item) b ∙ b′)) (live-of grantBytes bytes-laws j (l .borrower) c ∙ c′))
+
+pub guard-chain : (j : Journal) → Kept j → (n : ℕ) → chainGuarded (imagesOf j) true n ≡ n
+guard-chain j v n =
+    let k = few-sorted j (v .loan-inv) in
+    rw (
+      eq-eqb (length (grantsOf j)) grantCells (unfold grantBytes in (length-of grantBytes bytes-laws j)),
+      eq-eqb (length (imagesOf j .loans)) loanWords (length-loans (headerFor j) (sorted (j .loans)) k),
+      order-of grantBytes bytes-laws j (v .inv),
+      order-loans (liveIn grantBytes (grantsOf j)) (headerFor j) (sorted (j .loans)) k (rising-sorted (j .loans))
+          (all-sorted _ (j .loans) (all-mono (soundLoan (lives j)) _ (j .loans) (v .loan-inv .loans-sound) (word-good j))),
+    )
+
+-- ---- a command's number
+full-of : (j : Journal) → LoanInv j → (a : Arguments) → fits a ≡ true → chainFacts (imagesOf j) a .full ≡ facts j a .full
+full-of j v a h =
+    let k = few-sorted j v in
+    rw (count-of (headerFor j) (sorted (j .loans)) k, used-of (headerFor j) (sorted (j .loans)) k, few j v, word-in (loanIn a) (j .loans) h (loans-ranged j v))
+
+pub answer-chain : (j : Journal) → Kept j → (c : Command) → answerOf chainUnit (imagesOf j) c ≡ answered j c
+answer-chain j v c =
+    let a = argumentsOf c in
+    guard-chain j v _
+    ∙ by-cases (fits a)
+    (λ t. let r = ranged-command a t in
+    rw t (table-same (chainFacts (imagesOf j) a) (facts j a) (live-of grantBytes bytes-laws j _ (le-leb _ 63 (r .by)))
+    (live-of grantBytes bytes-laws j _ (le-leb _ 63 (r .on))) (live-of grantBytes bytes-laws j _ (le-leb _ 63 (r .to)))
+    (held-of grantBytes bytes-laws j (v .inv) _ _ 0 (both (both (le-leb _ 63 (r .by)) (le-leb _ 63 (r .on))) refl)) a
+    (λ n. full-of j (v .loan-inv) a t)))
+    (λ t. rw t)
+
+pub step-chain : (j : Journal) → Kept j → (c : Command) → stepOf chainUnit (imagesOf j) c ≡ imagesOf (step j c)
+step-chain j v c = rw (answer-chain j v c) (go (eqb (answered j c) 0) refl)
+  where
+    go : (b : Bool) → eqb (answered j c) 0 ≡ b → cond b (chainAfter (imagesOf j) (argumentsOf c)) (imagesOf j) ≡ imagesOf (cond b (apply j c) j)
+    go true e = chain-after j v c (eqb-true (answered j c) 0 e)
+    go false e = refl
+
+pub fresh-chain : chainFresh ≡ imagesOf fresh
+unfolding chainFresh fresh sorted
+fresh-chain = ap (λ g. images g (loansImage freshHeader [])) (fresh-of grantBytes bytes-laws)
+
+-- ---- what stands in the images stands in the journal
+pub stands-ranged : (j : Journal) → Inv j → (g : Grant) → standing j g ≡ true → ranged g ≡ true
+stands-ranged j v g h =
+    let f = find (sameGrant g) (sound (lives j)) (j .grants) (v .grants-sound) h in
+    rw (same-grant g (f .0) (f .2)) (fst (ranged (f .0)) _ (f .1))
+
+pub standing-of : (j : Journal) → Inv j → (g : Grant) → standingIn (grantsOf j) g ≡ standing j g
+standing-of j v g =
+    by-cases (ranged g)
+    (λ r. rw r
+    (bit-at-of grantBytes bytes-laws j (grantBytes .place g) (bytes-laws .below g r)
+    ∙ any-cong (λ h. eqb (grantBytes .place h) (grantBytes .place g)) (sameGrant g) (sound (lives j)) (j .grants) (v .grants-sound)
+    (λ h k. place-same g h r (fst (ranged h) _ k))))
+    (λ r. rw r
+    (by-cases (standing j g) (λ t. absurd (false≢true (sym r ∙ stands-ranged j v g t))) (λ t. sym t)))

@@ -1,0 +1,7 @@
+pub mod Rising
+pub mod Loans
+pub mod Search
+pub mod ChainEnds
+pub mod Rules
+pub mod Steps
+pub mod ChainUnit

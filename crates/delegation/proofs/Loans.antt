@@ -1,0 +1,187 @@
+-- The loans of a journal as rising words.
+use mathlib.Core.Path.{_≡_, refl, sym, ap, _∙_, ap₂}
+use mathlib.Core.Bool.{Bool, true, false, not, _||_, cond, false≢true}
+use mathlib.Core.List.{List, [], _∷_}
+use Prim.Native.Nat.{ℕ, zero, suc, _-_, _≤_, _<_}
+use native.Mathlib.Omega.{arith}
+use borrow.Author.Tests.{eqb-true, eq-eqb, leb-true, le-leb, not-true}
+use lib.ListN.{length, getD, drop, replicate, length-append, length-replicate, take, length-drop, take-append-drop}
+use lib.Seq.{take-at, drop-at, length-take-le}
+use lib.Dec.{eqb}
+use Rattle.bits.specs.Sets.{any, all, keep, add}
+use Rattle.model.specs.Commands.{mostLoans}
+use Rattle.model.specs.Journal.{Loan, loan, sameLoan, loanNames}
+use Rattle.delegation.specs.Loans.{lender, loanItem, loanRight, borrower, loanDepth, wordNames, wordOf, loanOf, rising, insert, loanWords, headerOf, headerWord, recounted, headerIn, loansImage, loansWith, loansKept, used, wordGood, loansInOrder, countOf}
+use Rattle.delegation.specs.declared.loan.Header.{Header}
+use Rattle.bits.proofs.Sets.{iff, fst, snd, both, any-cong}
+use Rattle.model.proofs.Invariant.{same-loan, loan-self, rangedLoan, distinct}
+use Rattle.delegation.proofs.Rising.{any-insert, all-insert, rising-insert, insert-present, length-insert, keep-insert}
+
+-- ---- a loan and its word
+loan-le : (l : Loan) → rangedLoan l ≡ true → (l .lender ≤ 63) × (l .item ≤ 63) × (l .right ≤ 7) × (l .borrower ≤ 63) × (l .depth ≤ 7)
+loan-le l h = search (fst, snd, leb-true)
+
+-- the fields of a loan's word
+pub word-fields : (l : Loan) → rangedLoan l ≡ true
+    → (lender (wordOf l) ≡ l .lender) × (loanItem (wordOf l) ≡ l .item) × (loanRight (wordOf l) ≡ l .right)
+    × (borrower (wordOf l) ≡ l .borrower) × (loanDepth (wordOf l) ≡ l .depth)
+unfolding wordOf
+word-fields l h = let b = loan-le l h in (omega arith, omega arith, omega arith, omega arith, omega arith)
+
+pub loanOf-wordOf : (l : Loan) → rangedLoan l ≡ true → loanOf (wordOf l) ≡ l
+unfolding loanOf
+loanOf-wordOf l h =
+    let f = word-fields l h in
+    let r : loan (lender (wordOf l)) (loanItem (wordOf l)) (loanRight (wordOf l)) (borrower (wordOf l)) (loanDepth (wordOf l))
+    ≡ loan (l .lender) (l .item) (l .right) (l .borrower) (l .depth)
+    = rw (f .0, f .1, f .2, f .3, f .4) in
+    r
+
+pub word-names : (i : ℕ) (l : Loan) → rangedLoan l ≡ true → wordNames i (wordOf l) ≡ loanNames i l
+word-names i l h = let f = word-fields l h in rw (f .0, f .1, f .3)
+
+pub wordOf-lt : (l : Loan) → rangedLoan l ≡ true → wordOf l < 16777216
+unfolding wordOf
+wordOf-lt l h = omega (arith, loan-le l h)
+
+-- equal words are of equal loans
+pub word-same : (l m : Loan) → rangedLoan l ≡ true → rangedLoan m ≡ true → eqb (wordOf l) (wordOf m) ≡ sameLoan l m
+word-same l m h k =
+    iff (eqb (wordOf l) (wordOf m)) (sameLoan l m)
+    (λ e. let q : l ≡ m = sym (loanOf-wordOf l h) ∙ ap loanOf (eqb-true (wordOf l) (wordOf m) e) ∙ loanOf-wordOf m k in
+    ap (λ x. sameLoan l x) (sym q) ∙ loan-self l)
+    (λ e. eq-eqb (wordOf l) (wordOf m) (ap wordOf (same-loan l m e)))
+
+-- ---- the words of loans
+unfoldable pub sorted : List Loan → List ℕ
+sorted [] = []
+sorted (l ∷ ls) = insert (wordOf l) (sorted ls)
+
+pub rising-sorted : (ls : List Loan) → rising (sorted ls) ≡ true
+unfolding sorted
+rising-sorted [] = unfold rising in refl
+rising-sorted (l ∷ ls) = rising-insert (wordOf l) (sorted ls) (rising-sorted ls)
+
+pub any-sorted : (p : ℕ → Bool) (ls : List Loan) → any p (sorted ls) ≡ any (λ l. p (wordOf l)) ls
+unfolding sorted any
+any-sorted p [] = refl
+any-sorted p (l ∷ ls) = any-insert p (wordOf l) (sorted ls) ∙ ap (λ b. p (wordOf l) || b) (any-sorted p ls)
+
+pub all-sorted : (q : ℕ → Bool) (ls : List Loan) → all (λ l. q (wordOf l)) ls ≡ true → all q (sorted ls) ≡ true
+unfolding sorted all
+all-sorted q [] h = refl
+all-sorted q (l ∷ ls) h =
+    all-insert q (wordOf l) (sorted ls) (fst (q (wordOf l)) (all (λ l. q (wordOf l)) ls) h) (all-sorted q ls (snd (q (wordOf l)) (all (λ l. q (wordOf l)) ls) h))
+
+pub keep-sorted : (f : Loan → Bool) (g : ℕ → Bool) (q : Loan → Bool) (ls : List Loan) → all q ls ≡ true
+    → ((l : Loan) → q l ≡ true → g (wordOf l) ≡ f l) → keep g (sorted ls) ≡ sorted (keep f ls)
+unfolding sorted all keep
+keep-sorted f g q [] h e = refl
+keep-sorted f g q (l ∷ ls) h e =
+    keep-insert g (wordOf l) (sorted ls) (rising-sorted ls)
+    ∙ go (g (wordOf l)) (f l) (e l (fst (q l) (all q ls) h)) (keep-sorted f g q ls (snd (q l) (all q ls) h) e)
+  where
+    go : (b c : Bool) → b ≡ c → keep g (sorted ls) ≡ sorted (keep f ls)
+        → cond b (insert (wordOf l) (keep g (sorted ls))) (keep g (sorted ls)) ≡ sorted (cond c (l ∷ keep f ls) (keep f ls))
+    go true true e k = ap (insert (wordOf l)) k
+    go false false e k = k
+    go true false e k = absurd (false≢true (sym e))
+    go false true e k = absurd (false≢true e)
+
+pub word-in : (l : Loan) (ls : List Loan) → rangedLoan l ≡ true → all rangedLoan ls ≡ true → any (eqb (wordOf l)) (sorted ls) ≡ any (sameLoan l) ls
+word-in l ls h k = any-sorted (eqb (wordOf l)) ls ∙ any-cong (λ m. eqb (wordOf l) (wordOf m)) (sameLoan l) rangedLoan ls k (λ m r. word-same l m h r)
+
+pub sorted-add : (l : Loan) (ls : List Loan) → rangedLoan l ≡ true → all rangedLoan ls ≡ true → sorted (add sameLoan l ls) ≡ insert (wordOf l) (sorted ls)
+unfolding sorted add
+sorted-add l ls h k = go (any (sameLoan l) ls) refl
+  where
+    go : (b : Bool) → any (sameLoan l) ls ≡ b → sorted (cond b ls (l ∷ ls)) ≡ insert (wordOf l) (sorted ls)
+    go true e = sym (insert-present (wordOf l) (sorted ls) (rising-sorted ls) (word-in l ls h k ∙ e))
+    go false e = refl
+
+pub length-sorted : (ls : List Loan) → all rangedLoan ls ≡ true → distinct ls ≡ true → length (sorted ls) ≡ length ls
+unfolding sorted distinct all
+length-sorted [] h d = refl
+length-sorted (l ∷ ls) h d =
+    let a : rangedLoan l ≡ true = fst (rangedLoan l) (all rangedLoan ls) h in
+    let k : all rangedLoan ls ≡ true = snd (rangedLoan l) (all rangedLoan ls) h in
+    length-insert (wordOf l) (sorted ls) (word-in l ls a k ∙ not-true (any (sameLoan l) ls) (fst (not (any (sameLoan l) ls)) (distinct ls) d))
+    ∙ ap suc (length-sorted ls k (snd (not (any (sameLoan l) ls)) (distinct ls) d))
+
+-- ---- a crate above knows the header of a table by these laws: it is read from word 0
+pub header-read : (t : List ℕ) → headerIn t ≡ headerOf (getD t 0 0)
+unfolding headerIn
+header-read t = refl
+
+-- ---- the image of words, whatever else its header says
+module _ (h : Header) (ws : List ℕ) where
+  pub header-of : length ws ≤ mostLoans → headerIn (loansImage h ws) ≡ recounted h (length ws)
+  unfolding headerIn headerOf headerWord recounted loansImage
+  header-of few = refl
+
+  pub count-of : length ws ≤ mostLoans → countOf (loansImage h ws) ≡ length ws
+  unfolding recounted
+  count-of few = ap (λ (x : Header). x .count) (header-of few)
+
+  pub recount-image : (n : ℕ) → loansImage (recounted h n) ws ≡ loansImage h ws
+  unfolding recounted loansImage
+  recount-image n = refl
+
+  pub used-of : length ws ≤ mostLoans → used (loansImage h ws) ≡ ws
+  unfolding used loansImage
+  used-of few = rw (count-of few) (take-at ws (replicate (mostLoans - length ws) 0) (length ws) refl)
+
+  pub length-loans : length ws ≤ mostLoans → length (loansImage h ws) ≡ loanWords
+  unfolding loansImage
+  length-loans few = simp (length-append, length-replicate) (omega arith)
+
+  rest : drop (suc (length ws)) (loansImage h ws) ≡ replicate (mostLoans - length ws) 0
+  unfolding loansImage
+  rest = drop-at ws (replicate (mostLoans - length ws) 0) (length ws) refl
+
+  -- with other loans under the same header
+  pub same-header : length ws ≤ mostLoans → (vs : List ℕ) → loansImage (headerIn (loansImage h ws)) vs ≡ loansImage h vs
+  unfolding headerIn headerOf headerWord recounted loansImage
+  same-header few vs = refl
+
+  pub kept-of : length ws ≤ mostLoans → (p : ℕ → Bool) → loansKept p (loansImage h ws) ≡ loansImage h (keep p ws)
+  kept-of few p = same-header few _ ∙ ap (λ l. loansImage h (keep p l)) (used-of few)
+
+  pub with-of : length ws ≤ mostLoans → (w : ℕ) → loansWith w (loansImage h ws) ≡ loansImage h (insert w ws)
+  with-of few w = same-header few _ ∙ ap (λ l. loansImage h (insert w l)) (used-of few)
+
+zeros : (n : ℕ) → all (eqb 0) (replicate n 0) ≡ true
+unfolding all
+zeros zero = refl
+zeros (suc n) = zeros n
+
+zeros-are : (s : List ℕ) → all (eqb 0) s ≡ true → s ≡ replicate (length s) 0
+unfolding all
+zeros-are [] h = refl
+zeros-are (x ∷ xs) h =
+    ap₂ (λ (y : ℕ) (ys : List ℕ). y ∷ ys) (sym (eqb-true 0 x (fst (eqb 0 x) (all (eqb 0) xs) h))) (zeros-are xs (snd (eqb 0 x) (all (eqb 0) xs) h))
+
+pub order-loans : (f : ℕ → Bool) (h : Header) (ws : List ℕ) → length ws ≤ mostLoans → rising ws ≡ true → all (wordGood f) ws ≡ true
+    → loansInOrder f (loansImage h ws) ≡ true
+unfolding loansInOrder
+order-loans f h ws few r g =
+    rw (count-of h ws few, used-of h ws few)
+    (both (both (both (le-leb _ _ few) r) g) (ap (all (eqb 0)) (rest h ws) ∙ zeros (mostLoans - length ws)))
+
+image-of : (t : List ℕ) → length t ≡ loanWords → countOf t ≤ mostLoans → all (eqb 0) (drop (suc (countOf t)) t) ≡ true → t ≡ loansImage (headerIn t) (used t)
+unfolding headerIn headerOf headerWord recounted used loansImage
+image-of [] l few z = absurd (omega arith)
+image-of (n ∷ s) l few z =
+    let k : length (take n s) ≡ n = length-take-le n s (omega arith) in
+    let q : drop n s ≡ replicate (mostLoans - n) 0 = zeros-are (drop n s) z ∙ (let e : length (drop n s) ≡ mostLoans - n = simp length-drop (omega arith) in rw e) in
+    rw k (ap (λ (l : List ℕ). n ∷ l) (sym (take-append-drop n s) ∙ rw q))
+
+-- a table in order is the image of its loans in use
+pub order-image : (f : ℕ → Bool) (t : List ℕ) → length t ≡ loanWords → loansInOrder f t ≡ true
+    → (countOf t ≤ mostLoans) × (rising (used t) ≡ true) × (t ≡ loansImage (headerIn t) (used t))
+unfolding loansInOrder
+order-image f t l h =
+    let few : countOf t ≤ mostLoans = leb-true (countOf t) mostLoans (search (fst, snd)) in
+    let r : rising (used t) ≡ true = search (fst, snd) in
+    let z : all (eqb 0) (drop (suc (countOf t)) t) ≡ true = search (fst, snd) in
+    (few, r, image-of t l few z)

@@ -1,0 +1,73 @@
+-- Demand 2: a check that is not refused decides what the rules of document 002 derive from the images. All is said of what the
+-- check's contract names: its number, what it found and the chain buffer after it.
+use mathlib.Core.Path.{_≡_, sym, _∙_}
+use mathlib.Core.Bool.{true, false, _&&_, false≢true}
+use mathlib.Core.Logic.{_↔_}
+use mathlib.Core.List.{List}
+use Prim.Native.Nat.{ℕ, _+_, _*_, _≤_, _<_}
+use lib.ListN.{length, getD}
+use lib.Dec.{eqb, leb}
+use Rattle.model.specs.Answers.{asked}
+use Rattle.model.specs.Journal.{grant}
+use Rattle.layouts.specs.Layouts.{Layout, depths, liveIn, grantBit, held, inOrder, grantBytes, checkNumber, checkYes}
+use Rattle.model.specs.Chain.{Access, Greatest, Meets}
+use Rattle.delegation.specs.Loans.{lender, borrower, loanDepth, loansInOrder}
+use Rattle.delegation.specs.Images.{Images, standingIn, LentIn, ImageChain}
+use Rattle.delegation.specs.Search.{foundOf}
+use Rattle.delegation.specs.ChainUnit.{chainSized, chainInOrder, chainCheckNumber, chainFound, chainBuffer}
+use Rattle.bits.proofs.Sets.{fst, snd, both, by-cases, find}
+use Rattle.model.proofs.Invariant.{passed, asked-in, asked-limits}
+use Rattle.model.proofs.Chain.{meets-access, greatest-exists}
+use Rattle.layouts.proofs.Layouts.{Laws, small, order-live}
+use Rattle.delegation.proofs.Search.{meets, dead-no}
+
+-- what the four rules derive from the grants and loans of the images
+abbrev pub ImageAccess : Images → ℕ → ℕ → ℕ → ℕ → Type 0
+ImageAccess s = Access lender borrower loanDepth (λ p o r d. standingIn (s .grants) (grant p o r d) ≡ true) (LentIn (s .loans))
+
+-- the search alone, of any images, in order or not
+pub search-decides : (s : Images) → ((i : ℕ) → getD (s .grants) i 0 < 256) → (p o r : ℕ) → p ≤ 63 → o ≤ 63 → r ≤ 7 → (d : ℕ)
+    → ImageAccess s p o r d ↔ (foundOf (s .grants) (s .loans) (8 * o + r) p .yes ≡ true) × (d ≤ foundOf (s .grants) (s .loans) (8 * o + r) p .depth)
+search-decides s bytes p o r hp ho hr d =
+    meets-access lender borrower loanDepth (λ p o r d. standingIn (s .grants) (grant p o r d) ≡ true) (LentIn (s .loans)) p o r (meets s bytes p o r hp ho hr) d
+
+-- the check of person p on item o, right r
+module _ (s : Images) (bytes : (i : ℕ) → getD (s .grants) i 0 < 256) (buffer : List ℕ) (p o r : ℕ) (free : chainCheckNumber s buffer p o r ≡ 0) where
+  judged : (chainInOrder s ≡ true) × (asked p o r ≡ 0)
+  judged = passed 1 (chainInOrder s) _ (passed 0 (chainSized s (eqb (length buffer) 8)) _ free .1)
+
+  -- yes exactly when a chain exists, with the greatest last allowance of any, and the bytes of one that has it
+  pub check-meets : Meets (λ ps a. ImageChain s o r ps p a) (chainFound s buffer p o r) (chainBuffer s buffer p o r)
+  check-meets =
+      let b = asked-limits p o r (judged .1) in
+      rw free (meets s bytes p o r (b .0) (b .1) (b .2))
+
+  -- yes exactly when the rules derive the access, with the greatest depth derivable
+  pub rules-decide : (d : ℕ) → ImageAccess s p o r d ↔ (chainFound s buffer p o r .yes ≡ true) × (d ≤ chainFound s buffer p o r .depth)
+  rules-decide d =
+      meets-access lender borrower loanDepth (λ p o r d. standingIn (s .grants) (grant p o r d) ≡ true) (LentIn (s .loans)) p o r check-meets d
+
+  -- the greatest allowance exists when any does
+  pub image-greatest : {ps : List ℕ} {a : ℕ} → ImageChain s o r ps p a → Greatest (λ qs b. ImageChain s o r qs p b)
+  image-greatest c = greatest-exists check-meets c
+
+  -- 'A question about dead items is answered no'
+  pub dead-answered-no : liveIn grantBytes (s .grants) p && liveIn grantBytes (s .grants) o ≡ false → chainFound s buffer p o r .yes ≡ false
+  dead-answered-no dead =
+      let g : inOrder grantBytes (s .grants) ≡ true = fst _ (loansInOrder (liveIn grantBytes (s .grants)) (s .loans)) (judged .0) in
+      let l : loansInOrder (liveIn grantBytes (s .grants)) (s .loans) ≡ true = snd (inOrder grantBytes (s .grants)) _ (judged .0) in
+      by-cases (chainFound s buffer p o r .yes)
+      (λ y. let k = dead-no s g l (check-meets .shown y) in absurd (false≢true (sym dead ∙ both (k .0) (k .1)))) (λ n. n)
+
+-- the same of lists and rows
+module _ (L : Layout) (W : Laws L) (s : List ℕ) (p o r : ℕ) (free : checkNumber L s p o r ≡ 0) where
+  pub dead-held-no : liveIn L s p && liveIn L s o ≡ false → checkYes L s p o r ≡ false
+  dead-held-no dead =
+      let j = passed 1 (inOrder L s) _ (passed 0 (eqb (length s) (L .cells)) _ free .1) in
+      let h = asked-in p o r (j .1) in
+      rw free
+      (by-cases (held L s p o r)
+      (λ y. let f = find (λ d. grantBit L s (L .place (grant p o r d))) (λ d. leb d 7) depths small y in
+      let q : leb (f .0) 7 ≡ true = f .1 in
+      let k = order-live L W s (j .0) (grant p o r (f .0)) (search (fst, snd, both)) (f .2) in
+      absurd (false≢true (sym dead ∙ both (k .0) (k .1)))) (λ n. n))

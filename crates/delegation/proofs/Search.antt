@@ -1,0 +1,284 @@
+-- Rounds and chains: an entry of round k is 1 + the greatest allowance of the chains with k loans, and what is read off the rounds is
+-- such a chain. So the check's answer and chain buffer are what chains say.
+use mathlib.Core.Path.{_≡_, refl, sym, ap, _∙_, subst}
+use mathlib.Core.Bool.{Bool, true, false, _&&_, cond, false≢true}
+use mathlib.Core.List.{List, [], _∷_, _++_}
+use mathlib.Core.Logic.{_↔_, by-cases, ⊎-elim}
+use Prim.Native.Nat.{ℕ, zero, suc, _+_, _-_, _*_, _/_, _%_, _≤_, _<_, min}
+use native.Mathlib.Omega.{arith}
+use native.Mathlib.Nat.{div-div-eq-div-mul, zero-lt-suc}
+use native.Mathlib.Decide.{decLt, ℕ-discrete}
+use lib.Dec.{eqb, ltb}
+use lib.Count.{leading-length, leading-top, leading-of-zero}
+use borrow.Author.Tests.{eqb-true, eq-eqb, ne-eqb, le-leb, leb-true}
+use lib.ListN.{length, getD, replicate, length-append, length-replicate}
+use lib.Seq.{take-at, drop-at}
+use Rattle.bits.specs.Sets.{any, all, keep, most, firstAt, tabulate}
+use Rattle.bits.specs.Bits.{bit}
+use Rattle.model.specs.Answers.{Found, nothing}
+use Rattle.model.specs.Journal.{grant}
+use Rattle.bits.specs.Cells.{at}
+use Rattle.layouts.specs.Layouts.{grantBytes, liveIn, inOrder}
+use Rattle.model.specs.Chain.{granted, lent, Meets}
+use Rattle.delegation.specs.Loans.{keyOf, lender, loanItem, loanRight, borrower, loanDepth, used, rising, wordGood, loansInOrder}
+use Rattle.delegation.specs.Images.{Images, standingIn, LentIn, ImageChain}
+use Rattle.delegation.specs.Search.{picked, height, grantRound, gain, arrive, arriving, nextRound, roundAt, column, lenderTo, traced, roundsOf, heightOf, lengthOf, foundOf, chainOf}
+use Rattle.bits.proofs.Sets.{fst, snd, both, find, all-mono, any-kept, all-keep, all-true}
+use Rattle.bits.proofs.Indexed.{getD-tabulate, most-above, first-most, split, any-at, find-at}
+use Rattle.bits.proofs.Bits.{bit-high, bit-top}
+use Rattle.model.proofs.Invariant.{eqb-self}
+use Rattle.layouts.proofs.Layouts.{order-live, bytes-laws}
+
+-- ---- a grant byte
+pub below-height : (b e : ℕ) → b < 256 → bit b e ≡ true → e < height b
+below-height b e h t =
+    let s = leading-length 8 b h in
+    by-cases (decLt e (s .0)) (λ l. omega arith) (λ l. absurd (false≢true (sym (bit-high (s .0) b e (s .2) (omega arith)) ∙ t)))
+
+pub height-bit : (b a : ℕ) → b < 256 → height b ≡ suc a → bit b a ≡ true
+height-bit zero a h e = absurd (omega (arith, leading-of-zero 8))
+height-bit (suc b) a h e =
+    let t = leading-top 8 (suc b) (zero-lt-suc b) h in
+    ap (bit (suc b)) (let j : a ≡ t .0 = omega arith in j) ∙ bit-top (suc b) (t .0) (t .2) (t .3)
+
+-- a grant within the limits stands where its byte has the bit of its depth
+standing-bit : (s : List ℕ) (p o r d : ℕ) → p ≤ 63 → o ≤ 63 → r ≤ 7 → d ≤ 7
+    → standingIn s (grant p o r d) ≡ bit (getD s (8 + 64 * (8 * o + r) + p) 0) d
+unfolding grantBytes at
+standing-bit s p o r d hp ho hr hd =
+    let k : ℕ = 64 + ((512 * o + 64 * r + p) * 8 + d) in
+    let q : k / 8 ≡ 8 + 64 * (8 * o + r) + p = omega arith in
+    let m : k % 8 ≡ d = omega arith in
+    rw (le-leb p 63 hp, le-leb o 63 ho, le-leb r 7 hr, le-leb d 7 hd) (λ j. bit (getD s (q j) 0) (m j))
+
+-- ---- the loans of one item and right
+key-parts : (w : ℕ) → keyOf w ≡ 8 * loanItem w + loanRight w
+key-parts w = let z = div-div-eq-div-mul w 512 8 in omega arith
+
+pub picked-are : (t : List ℕ) (key w : ℕ) → any (eqb w) (picked t key) ≡ any (eqb w) (used t) && eqb (keyOf w) key
+unfolding picked
+picked-are t key w =
+    any-kept (eqb w) (λ x. eqb (keyOf x) key) (λ x. true) (eqb (keyOf w) key) (used t) (all-true (used t))
+    (λ x h e. ap (λ (y : ℕ). eqb (keyOf y) key) (sym (eqb-true w x e)))
+
+pub rising-keep : (f : ℕ → Bool) (xs : List ℕ) → rising xs ≡ true → rising (keep f xs) ≡ true
+unfolding rising keep all
+rising-keep f [] h = refl
+rising-keep f (x ∷ xs) h =
+    go (f x) (rising-keep f xs (snd (all (ltb x) xs) (rising xs) h))
+    (all-mono _ (ltb x) (keep f xs) (all-keep (ltb x) f xs (fst (all (ltb x) xs) (rising xs) h)) (λ y e. fst (ltb x y) (f y) e))
+  where
+    go : (b : Bool) → rising (keep f xs) ≡ true → all (ltb x) (keep f xs) ≡ true → rising (cond b (x ∷ keep f xs) (keep f xs)) ≡ true
+    go true i a = both a i
+    go false i a = i
+
+-- so each is picked once
+pub picked-rising : (t : List ℕ) (key : ℕ) → rising (used t) ≡ true → rising (picked t key) ≡ true
+unfolding picked
+picked-rising t key h = rising-keep (λ w. eqb (keyOf w) key) (used t) h
+
+pub lent-picked : (t : List ℕ) (o r w : ℕ) → r ≤ 7 → LentIn t o r w ↔ any (eqb w) (picked t (8 * o + r)) ≡ true
+lent-picked t o r w h = (
+  λ l. picked-are t (8 * o + r) w ∙ both (l .0) (eq-eqb (keyOf w) (8 * o + r) (omega (arith, key-parts w, l .1, l .2))),
+  λ e. let b : any (eqb w) (used t) && eqb (keyOf w) (8 * o + r) ≡ true = sym (picked-are t (8 * o + r) w) ∙ e in
+      let k : keyOf w ≡ 8 * o + r = eqb-true (keyOf w) (8 * o + r) (snd (any (eqb w) (used t)) _ b) in
+      (fst (any (eqb w) (used t)) _ b, omega (arith, key-parts w), omega (arith, key-parts w)),
+)
+
+-- ---- one loan
+pub arrive-here : (v w q : ℕ) → borrower w ≡ q → arrive v w q ≡ gain v w
+unfolding arrive
+arrive-here v w q e = rw (eq-eqb _ _ e)
+
+pub arrive-else : (v w q : ℕ) → (borrower w ≡ q → ⊥) → arrive v w q ≡ 0
+unfolding arrive
+arrive-else v w q e = rw (ne-eqb _ _ e)
+
+arrive-inv : (v w q a : ℕ) → arrive v w q ≡ suc a → (borrower w ≡ q) × (gain v w ≡ suc a)
+arrive-inv v w q a e =
+    by-cases (ℕ-discrete (borrower w) q) (λ b. (b, sym (arrive-here v w q b) ∙ e)) (λ b. absurd (omega (arith, arrive-else v w q b)))
+
+-- where some loan passes v on to q, the lender taken is the lender of one
+lender-found : (ls round : List ℕ) (q v n i : ℕ) → i < n → arriving ls round q i ≡ v
+    → (j : ℕ) × (j < n) × (arriving ls round q j ≡ v) × (lender (getD ls j 0) ≡ lenderTo ls round q v n)
+unfolding lenderTo
+lender-found ls round q v zero i h e = absurd (omega arith)
+lender-found ls round q v (suc n) i h e =
+    by-cases (ℕ-discrete (arriving ls round q n) v)
+    (λ d. (n, omega arith, d, rw (eq-eqb _ _ d)))
+    (λ d. let s = lender-found ls round q v n i (⊎-elim (λ (x : i ≡ n). absurd (d (ap (arriving ls round q) (sym x) ∙ e))) (λ l. l) (split h)) e in
+    (s .0, omega arith, s .2, rw (ne-eqb _ _ d) (s .3)))
+
+-- ---- rounds
+at-next : (ls round : List ℕ) (q : ℕ) → q < 64 → getD (nextRound ls round) q 0 ≡ most (arriving ls round q) (length ls)
+unfolding nextRound
+at-next ls round q h = getD-tabulate 64 (λ (q : ℕ). most (arriving ls round q) (length ls)) q 0 h
+
+at-grant : (gs : List ℕ) (base q : ℕ) → q < 64 → getD (grantRound gs base) q 0 ≡ height (getD gs (base + q) 0)
+unfolding grantRound
+at-grant gs base q h = getD-tabulate 64 (λ (p : ℕ). height (getD gs (base + p) 0)) q 0 h
+
+-- every loan costs one
+pub bounded : (gs : List ℕ) (base : ℕ) (ls : List ℕ) (k q : ℕ) → q < 64 → getD (roundAt (grantRound gs base) ls k) q 0 ≤ 8 - k
+unfolding roundAt
+bounded gs base ls zero q h = omega (arith, at-grant gs base q h)
+bounded gs base ls (suc k) q h =
+    let round : List ℕ = roundAt (grantRound gs base) ls k in
+    let f : ℕ → ℕ = arriving ls round q in
+    by-cases (decLt 0 (most f (length ls)))
+    (λ l. let s = first-most f (length ls) l in
+    let w : ℕ = getD ls (firstAt f (length ls)) 0 in
+    let a = arrive-inv (getD round (lender w) 0) w q (most f (length ls) - 1) (s .1 ∙ omega arith) in
+    let ih = bounded gs base ls k (lender w) (omega arith) in
+    omega (arith, at-next ls round q h))
+    (λ l. omega (arith, at-next ls round q h))
+
+-- ---- the rounds of an item and right, and their chains
+abbrev pub roundOf : Images → ℕ → ℕ → ℕ → List ℕ
+roundOf s o r k = roundAt (grantRound (s .grants) (8 + 64 * (8 * o + r))) (picked (s .loans) (8 * o + r)) k
+
+module _ (s : Images) (bytes : (i : ℕ) → getD (s .grants) i 0 < 256) (o r : ℕ) (ho : o ≤ 63) (hr : r ≤ 7) where
+  abbrev base : ℕ
+  base = 8 + 64 * (8 * o + r)
+
+  abbrev ls : List ℕ
+  ls = picked (s .loans) (8 * o + r)
+
+  abbrev round : ℕ → List ℕ
+  round k = roundOf s o r k
+
+  abbrev rounds : List (List ℕ)
+  rounds = roundsOf (s .grants) (s .loans) (8 * o + r)
+
+  -- no chain has more than its round says
+  pub complete : {ps : List ℕ} {q a : ℕ} → ImageChain s o r ps q a → q ≤ 63 → (k : ℕ) × (length ps ≡ suc k) × (a < getD (roundOf s o r k) q 0)
+  unfolding roundAt
+  complete (granted {p} {e} g) h =
+      let d : e ≤ 7 = search (fst, snd, leb-true) in
+      let b = sym (standing-bit (s .grants) p o r e h ho hr d) ∙ g in
+      (0, refl, rw (at-grant (s .grants) base p (omega arith)) (below-height (getD (s .grants) (base + p) 0) e (bytes (base + p)) b))
+  complete (lent {ps} {a} w l c) h =
+      let n = complete c (omega arith) in
+      let v : ℕ = getD (round (n .0)) (lender w) 0 in
+      let i = find-at (eqb w) 0 ls (lent-picked (s .loans) o r w hr .0 l) in
+      let e : w ≡ getD ls (i .0) 0 = eqb-true _ _ (i .2) in
+      let at : arriving ls (round (n .0)) (borrower w) (i .0) ≡ arrive v w (borrower w) =
+      λ j. arrive (getD (round (n .0)) (lender (sym e j)) 0) (sym e j) (borrower w) in
+      let g = arrive-here v w (borrower w) refl in
+      let m = most-above (arriving ls (round (n .0)) (borrower w)) (length ls) (i .0) (i .1) in
+      (suc (n .0), simp length-append (omega arith), omega (arith, at-next ls (round (n .0)) (borrower w) (omega arith)))
+
+  rounds-at : (k : ℕ) → k < 8 → getD rounds k [] ≡ round k
+  unfolding roundsOf
+  rounds-at k h = getD-tabulate 8 (roundAt (grantRound (s .grants) base) ls) k [] h
+
+  -- what is read off the rounds is a chain with the allowance that its round says
+  pub traced-chain : (k q a : ℕ) → k < 8 → q ≤ 63 → getD (roundOf s o r k) q 0 ≡ suc a
+      → ImageChain s o r (traced (roundsOf (s .grants) (s .loans) (8 * o + r)) (picked (s .loans) (8 * o + r)) k q) q a
+  unfolding traced roundAt
+  traced-chain zero q a hk h e =
+      let t : height (getD (s .grants) (base + q) 0) ≡ suc a = sym (at-grant (s .grants) base q (omega arith)) ∙ e in
+      granted (standing-bit (s .grants) q o r a h ho hr (omega arith) ∙ height-bit (getD (s .grants) (base + q) 0) a (bytes (base + q)) t)
+  traced-chain (suc k) q a hk h e =
+      let f : ℕ → ℕ = arriving ls (round k) q in
+      let m : most f (length ls) ≡ suc a = sym (at-next ls (round k) q (omega arith)) ∙ e in
+      let t = first-most f (length ls) (omega arith) in
+      let n = lender-found ls (round k) q (suc a) (length ls) (firstAt f (length ls)) (t .0) (t .1 ∙ m) in
+      let w : ℕ = getD ls (n .0) 0 in
+      let i = arrive-inv (getD (round k) (lender w) 0) w q a (n .2) in
+      let here : column rounds q (suc k) ≡ suc a = ap (λ (x : List ℕ). getD x q 0) (rounds-at (suc k) hk) ∙ e in
+      let same : lender w ≡ lenderTo ls (getD rounds k []) q (column rounds q (suc k)) (length ls) =
+      n .3 ∙ (λ j. lenderTo ls (sym (rounds-at k (omega arith)) j) q (sym here j) (length ls)) in
+      let b : ℕ = getD (round k) (lender w) 0 - 2 in
+      let c = traced-chain k (lender w) (suc b) (omega arith) (omega arith) (omega arith) in
+      let less : min b (loanDepth w) ≡ a = omega arith in
+      let l = lent-picked (s .loans) o r w hr .1 (any-at (eqb w) 0 ls (n .0) (n .1) (eqb-self w)) in
+      subst (λ (p : ℕ). ImageChain s o r (traced rounds ls k p ++ (q ∷ [])) q a) same
+      (subst (λ (u : ℕ). ImageChain s o r (traced rounds ls k (lender w) ++ (u ∷ [])) u a) (i .0)
+      (subst (λ (y : ℕ). ImageChain s o r (traced rounds ls k (lender w) ++ (borrower w ∷ [])) (borrower w) y) less (lent w l c)))
+
+  -- a chain's allowance is below the greatest entry of its last person
+  above : (p : ℕ) → p ≤ 63 → (ps : List ℕ) (a : ℕ) → ImageChain s o r ps p a → a < heightOf (s .grants) (s .loans) (8 * o + r) p
+  unfolding heightOf
+  above p h ps a c =
+      let n = complete c h in
+      let b = bounded (s .grants) base ls (n .0) p (omega arith) in
+      let k : n .0 < 8 = omega arith in
+      let e = ap (λ (x : List ℕ). getD x p 0) (rounds-at (n .0) k) in
+      omega (arith, most-above (column rounds p) 8 (n .0) k)
+
+-- ---- the check
+-- the answer of height v and n loans
+abbrev pub yesFound : ℕ → ℕ → Found
+yesFound v n = record { yes = true; depth = v - 1; persons = n + 1 }
+
+module _ (gs t : List ℕ) (key who : ℕ) where
+  pub found-no : heightOf gs t key who ≡ 0 → (foundOf gs t key who ≡ nothing) × (chainOf gs t key who ≡ replicate 8 255)
+  unfolding foundOf chainOf
+  found-no e = (rw (eq-eqb _ _ e), rw (eq-eqb _ _ e))
+
+  pub found-yes : (heightOf gs t key who ≡ 0 → ⊥)
+      → (foundOf gs t key who ≡ yesFound (heightOf gs t key who) (lengthOf gs t key who))
+      × (chainOf gs t key who ≡ traced (roundsOf gs t key) (picked t key) (lengthOf gs t key who) who ++ replicate (7 - lengthOf gs t key who) 255)
+  unfolding foundOf chainOf
+  found-yes ne = (rw (ne-eqb _ _ ne), rw (ne-eqb _ _ ne))
+
+-- no allowance is above 7
+pub height-le : (gs t : List ℕ) (key who : ℕ) → who ≤ 63 → heightOf gs t key who ≤ 8
+unfolding heightOf roundsOf
+height-le gs t key who h =
+    let row : ℕ → List ℕ = roundAt (grantRound gs (8 + 64 * key)) (picked t key) in
+    let f : ℕ → ℕ = column (tabulate 8 row) who in
+    by-cases (decLt 0 (most f 8))
+    (λ l. let n = first-most f 8 l in
+    let e = ap (λ (x : List ℕ). getD x who 0) (getD-tabulate 8 row (firstAt f 8) [] (n .0)) in
+    omega (arith, n .1, e, bounded gs (8 + 64 * key) (picked t key) (firstAt f 8) who (omega arith)))
+    (λ l. omega arith)
+
+length-traced : (rounds : List (List ℕ)) (ls : List ℕ) (k q : ℕ) → length (traced rounds ls k q) ≡ k + 1
+unfolding traced
+length-traced rounds ls zero q = refl
+length-traced rounds ls (suc k) q = simp (length-append, length-traced rounds ls k) (omega arith)
+
+-- the check says what chains say
+pub meets : (s : Images) → ((i : ℕ) → getD (s .grants) i 0 < 256) → (p o r : ℕ) → p ≤ 63 → o ≤ 63 → r ≤ 7
+    → Meets (λ ps a. ImageChain s o r ps p a) (foundOf (s .grants) (s .loans) (8 * o + r) p) (chainOf (s .grants) (s .loans) (8 * o + r) p)
+unfolding heightOf lengthOf
+meets s bytes p o r hp ho hr =
+    let key : ℕ = 8 * o + r in
+    let rounds : List (List ℕ) = roundsOf (s .grants) (s .loans) key in
+    let f : ℕ → ℕ = column rounds p in
+    let at : ℕ = firstAt f 8 in
+    let us : List ℕ = traced rounds (picked (s .loans) key) at p in
+    let pad : List ℕ = replicate (7 - at) 255 in
+    let len = length-traced rounds (picked (s .loans) key) at p in
+    by-cases (ℕ-discrete (most f 8) 0)
+    (λ e. let a = found-no (s .grants) (s .loans) key p e in
+    rw (a .0, a .1) (record {
+      eight = refl;
+      shown = λ t. absurd (false≢true t);
+      padded = λ t. absurd (false≢true t);
+      greatest = λ ps a c. absurd (omega (arith, above s bytes o r ho hr p hp ps a c));
+      none = λ t. (refl, refl, refl);
+    }))
+    (λ ne. let a = found-yes (s .grants) (s .loans) key p ne in
+    let n = first-most f 8 (omega arith) in
+    let e : getD (roundOf s o r at) p 0 ≡ suc (most f 8 - 1) = ap (λ (x : List ℕ). getD x p 0) (sym (rounds-at s bytes o r ho hr at (n .0))) ∙ n .1 ∙ omega arith in
+    rw (a .0, a .1) (record {
+      eight = simp (length-append, length-replicate) (omega (arith, len, n .0));
+      shown = λ t. rw (take-at us pad (at + 1) len) (traced-chain s bytes o r ho hr at p (most f 8 - 1) (n .0) hp e);
+      padded = λ t. (omega arith, omega arith, drop-at us pad (at + 1) len ∙ (let z : 7 - at ≡ 8 - (at + 1) = omega arith in λ j. replicate (z j) 255));
+      greatest = λ ps a c. (refl, omega (arith, above s bytes o r ho hr p hp ps a c));
+      none = λ t. absurd (false≢true (sym t));
+    }))
+
+-- the chains of images in order end at living persons and are on living items: so by `meets` a question about a dead item is answered no
+pub dead-no : (s : Images) → inOrder grantBytes (s .grants) ≡ true → loansInOrder (liveIn grantBytes (s .grants)) (s .loans) ≡ true
+    → {o r : ℕ} {ps : List ℕ} {p a : ℕ} → ImageChain s o r ps p a → (liveIn grantBytes (s .grants) p ≡ true) × (liveIn grantBytes (s .grants) o ≡ true)
+unfolding loansInOrder
+dead-no s hg hl {o} {r} (granted {p} {e} g) = order-live grantBytes bytes-laws (s .grants) hg (grant p o r e) (search (fst, snd, both)) (search (fst, snd))
+dead-no s hg hl (lent w l c) =
+    let good : ℕ → Bool = wordGood (liveIn grantBytes (s .grants)) in
+    let f = find (eqb w) good (used (s .loans)) (search (fst, snd)) (l .0) in
+    let g : good w ≡ true = ap good (eqb-true w (f .0) (f .2)) ∙ f .1 in
+    (search (fst, snd), ap (liveIn grantBytes (s .grants)) (sym (l .1)) ∙ search (fst, snd))

@@ -1,0 +1,67 @@
+-- Each command of a chain unit, case by case: what it does to the two images is what it does to the journal.
+use mathlib.Core.Path.{_≡_, refl, sym, ap, ap₂, _∙_}
+use mathlib.Core.Bool.{not}
+use mathlib.Core.List.{List}
+use Prim.Native.Nat.{ℕ, _≤_}
+use native.Mathlib.Omega.{arith}
+use lib.ListN.{length}
+use lib.Dec.{eqb}
+use Rattle.model.specs.declared.Command.{Command}
+use Rattle.model.specs.declared.Command.the-variants.{Create, Delete, Allow, Withdraw, Lend, Recall}
+use Rattle.delegation.specs.declared.loan.Header.{Header}
+use Rattle.model.specs.Commands.{argumentsOf, mostLoans}
+use Rattle.model.specs.Journal.{Loan, Journal, loan, sameLoan, loanNames, facts, answered, apply}
+use Rattle.layouts.specs.Layouts.{grantBytes}
+use Rattle.delegation.specs.Loans.{wordOf, wordNames, freshHeader, loansImage}
+use Rattle.delegation.specs.Images.{Images, images}
+use Rattle.delegation.specs.ChainUnit.{chainAfter}
+use Rattle.model.proofs.Invariant.{accepted, rangedLoan, LoanInv, loans-ranged}
+use Rattle.layouts.proofs.Layouts.{imageOf, bytes-laws, created-of, deleted-of, allowed-of, withdrawn-of, same-image}
+use Rattle.delegation.proofs.Loans.{word-names, word-same, sorted, keep-sorted, sorted-add, length-sorted, kept-of, with-of}
+use Rattle.model.proofs.Steps.{Kept}
+
+-- ---- the chain unit
+abbrev pub grantsOf : Journal → List ℕ
+grantsOf j = imageOf grantBytes bytes-laws j
+
+-- what the table's header says of a journal beside the number of its loans
+abbrev pub headerFor : Journal → Header
+headerFor j = freshHeader
+
+abbrev loansOf : Journal → List Loan → List ℕ
+loansOf j ls = loansImage (headerFor j) (sorted ls)
+
+-- the images of a journal
+abbrev pub imagesOf : Journal → Images
+imagesOf j = record { grants = grantsOf j; loans = loansOf j (j .loans) }
+
+pub few : (j : Journal) → LoanInv j → length (sorted (j .loans)) ≡ length (j .loans)
+few j v = length-sorted (j .loans) (loans-ranged j v) (v .loans-distinct)
+
+pub few-sorted : (j : Journal) → LoanInv j → length (sorted (j .loans)) ≤ mostLoans
+few-sorted j v = omega (arith, few j v, v .loans-few)
+
+pub chain-after : (j : Journal) → Kept j → (c : Command) → answered j c ≡ 0 → chainAfter (imagesOf j) (argumentsOf c) ≡ imagesOf (apply j c)
+chain-after j v (Create by on) e = ap (λ g. images g (loansOf j (j .loans))) (created-of grantBytes bytes-laws j (v .inv) by on)
+chain-after j v (Delete by on) e =
+    ap₂ images (deleted-of grantBytes bytes-laws j (v .inv) by on)
+    (kept-of (headerFor j) (sorted (j .loans)) (few-sorted j (v .loan-inv)) (λ w. not (wordNames on w))
+    ∙ ap (loansImage (headerFor j))
+    (keep-sorted (λ l. not (loanNames on l)) (λ w. not (wordNames on w)) rangedLoan (j .loans) (loans-ranged j (v .loan-inv)) (λ l h. ap not (word-names on l h))))
+chain-after j v (Allow by to on right depth) e =
+    ap (λ g. images g (loansOf j (j .loans))) (allowed-of grantBytes bytes-laws j (v .inv) by to on right depth)
+chain-after j v (Withdraw by to on right) e =
+    ap (λ g. images g (loansOf j (j .loans))) (withdrawn-of grantBytes bytes-laws j (v .inv) by to on right)
+chain-after j v (Lend by to on right depth) e =
+    let a = argumentsOf (Lend by to on right depth) in
+    ap₂ images (same-image grantBytes bytes-laws j (apply j (Lend by to on right depth)) refl refl)
+    (with-of (headerFor j) (sorted (j .loans)) (few-sorted j (v .loan-inv)) (wordOf (loan by on right to depth))
+    ∙ ap (loansImage (headerFor j)) (sym (sorted-add (loan by on right to depth) (j .loans) (accepted (facts j a) a e .fits) (loans-ranged j (v .loan-inv)))))
+chain-after j v (Recall by to on right depth) e =
+    let a = argumentsOf (Recall by to on right depth) in
+    let l = loan by on right to depth in
+    ap₂ images (same-image grantBytes bytes-laws j (apply j (Recall by to on right depth)) refl refl)
+    (kept-of (headerFor j) (sorted (j .loans)) (few-sorted j (v .loan-inv)) (λ w. not (eqb (wordOf l) w))
+    ∙ ap (loansImage (headerFor j))
+    (keep-sorted (λ m. not (sameLoan l m)) (λ w. not (eqb (wordOf l) w)) rangedLoan (j .loans)
+    (loans-ranged j (v .loan-inv)) (λ m h. ap not (word-same l m (accepted (facts j a) a e .fits) h))))

@@ -1,0 +1,102 @@
+-- The chain unit: its six commands, and its check.
+use mathlib.Core.Path.{_≡_}
+use mathlib.Core.Bool.{Bool, true, not, _&&_, cond}
+use mathlib.Core.List.{List, []}
+use Prim.Native.Nat.{ℕ, _+_, _*_}
+use lib.ListN.{length}
+use lib.Dec.{eqb, leb}
+use Rattle.model.specs.declared.Arguments.{Arguments}
+use Rattle.model.specs.declared.Facts.{Facts}
+use Rattle.model.specs.declared.Verb.{Verb}
+use Rattle.model.specs.declared.Verb.the-variants as verb
+use Rattle.model.specs.declared.Answer.{Answer}
+use Rattle.model.specs.declared.ChainChecked.{ChainChecked}
+use Rattle.bits.specs.Sets.{any}
+use Rattle.layouts.specs.Machine.{Machine, guardedBy}
+use Rattle.model.specs.Commands.{mostLoans}
+use Rattle.model.specs.Answers.{Found, asked, Numbered, chainCheckedOf, nothing, _when_else_}
+use Rattle.model.specs.Journal.{grant, loanIn}
+use Rattle.layouts.specs.Layouts.{grantBytes, grantCells, liveIn, held, inOrder, created, deleted, allowed, withdrawn, freshImage}
+use Rattle.delegation.specs.Loans.{wordOf, wordNames, loanWords, countOf, used, loansImage, loansWith, loansKept, freshHeader, loansInOrder}
+use Rattle.delegation.specs.Images.{Images, images}
+use Rattle.delegation.specs.Search.{foundOf, chainOf}
+
+-- 'no dead item is named in it (for loans, by the grants' roll)'
+abbrev pub chainInOrder : Images → Bool
+chainInOrder s = inOrder grantBytes (s .grants) && loansInOrder (liveIn grantBytes (s .grants)) (s .loans)
+
+-- both images have their lengths; room: so has every other lent buffer
+abbrev pub chainSized : Images → Bool → Bool
+chainSized s room = eqb (length (s .grants)) grantCells && eqb (length (s .loans)) loanWords && room
+
+-- the answer n, after numbers 1 and 2
+abbrev pub chainGuarded : Images → Bool → ℕ → ℕ
+chainGuarded s room n = guardedBy (chainSized s room) (chainInOrder s) n
+
+-- what the table asks; full: '1,024 loans stand and this is not one of them'
+abbrev pub chainFacts : Images → Arguments → Facts
+chainFacts s a = record {
+  by = liveIn grantBytes (s .grants) (a .by);
+  on = liveIn grantBytes (s .grants) (a .on);
+  to = liveIn grantBytes (s .grants) (a .to);
+  edits = held grantBytes (s .grants) (a .by) (a .on) 0;
+  full = leb mostLoans (countOf (s .loans)) && not (any (eqb (wordOf (loanIn a))) (used (s .loans)));
+}
+
+-- both images after an accepted command: what it does to one may ask the other
+abbrev pub chainDone : Images → Arguments → Verb → Images
+chainDone s a verb.Create = images (created grantBytes (s .grants) (a .by) (a .on)) (s .loans)
+chainDone s a verb.Delete = images (deleted grantBytes (s .grants) (a .on)) (loansKept (λ w. not (wordNames (a .on) w)) (s .loans))
+chainDone s a verb.Allow = images (allowed grantBytes (s .grants) (grant (a .to) (a .on) (a .right) (a .depth))) (s .loans)
+chainDone s a verb.Withdraw = images (withdrawn grantBytes (s .grants) (a .to) (a .on) (a .right)) (s .loans)
+chainDone s a verb.Lend = images (s .grants) (loansWith (wordOf (loanIn a)) (s .loans))
+chainDone s a verb.Recall = images (s .grants) (loansKept (λ w. not (eqb (wordOf (loanIn a)) w)) (s .loans))
+
+-- by the verb of its arguments
+abbrev pub chainAfter : Images → Arguments → Images
+chainAfter s a = chainDone s a (a .verb)
+
+-- a chain unit has every command
+abbrev pub chainUnit : Machine Images
+chainUnit = record { has = λ c. true; sized = λ s. chainSized s true; ordered = chainInOrder; facts = chainFacts; after = chainAfter }
+
+-- answer r and images x of a look at the images alone, which knows 1 and 2
+abbrev pub ChainInspects : Images → Answer → Images → Type 0
+ChainInspects s r x = Numbered r (chainGuarded s true 0) × (x ≡ s)
+
+-- ---- the check of person p on item o, right r, with a chain buffer
+abbrev pub chainCheckNumber : Images → List ℕ → ℕ → ℕ → ℕ → ℕ
+chainCheckNumber s buffer p o r = chainGuarded s (eqb (length buffer) 8) (asked p o r)
+
+-- yes or no, depth and number of persons; 'beside a refusal, depth, number of persons .. are 0'
+abbrev pub chainFound : Images → List ℕ → ℕ → ℕ → ℕ → Found
+chainFound s buffer p o r = cond (eqb (chainCheckNumber s buffer p o r) 0) (foundOf (s .grants) (s .loans) (8 * o + r) p) nothing
+
+-- the buffer after it; a refusal leaves it as it was
+abbrev pub chainBuffer : Images → List ℕ → ℕ → ℕ → ℕ → List ℕ
+chainBuffer s buffer p o r = cond (eqb (chainCheckNumber s buffer p o r) 0) (chainOf (s .grants) (s .loans) (8 * o + r) p) buffer
+
+-- the images after it: 'no check changes an image'
+abbrev pub chainLeft : Images → List ℕ → ℕ → ℕ → ℕ → Images
+chainLeft s buffer p o r = s
+
+-- answer a, buffer b and images x of a check: its contract
+abbrev pub ChainChecks : Images → List ℕ → ℕ → ℕ → ℕ → ChainChecked → List ℕ → Images → Type 0
+ChainChecks s buffer p o r a b x =
+    (a ≡ chainCheckedOf (chainCheckNumber s buffer p o r) (chainFound s buffer p o r)) × (b ≡ chainBuffer s buffer p o r)
+    × (x ≡ chainLeft s buffer p o r)
+
+-- the images of a fresh unit: the fresh grants, and no loan
+unfoldable pub chainFresh : Images
+chainFresh = record { grants = freshImage grantBytes; loans = loansImage freshHeader [] }
+
+-- 'making a fresh unit knows 1 alone': whatever the buffers held
+abbrev pub chainFreshNumber : Images → ℕ
+chainFreshNumber s = 1 when not (eqb (length (s .grants)) grantCells && eqb (length (s .loans)) loanWords) else 0
+
+abbrev pub chainFreshOf : Images → Images
+chainFreshOf s = cond (eqb (chainFreshNumber s) 0) chainFresh s
+
+-- answer r and images x of making a fresh unit
+abbrev pub ChainFreshens : Images → Answer → Images → Type 0
+ChainFreshens s r x = Numbered r (chainFreshNumber s) × (x ≡ chainFreshOf s)

@@ -1,0 +1,4 @@
+pub mod Loans
+pub mod Images
+pub mod Search
+pub mod ChainUnit

@@ -1,0 +1,82 @@
+-- The check's search: the loans of the item and right are picked once, then come rounds by number of loans.
+-- Round k has for each person 0, or 1 + the greatest allowance of the chains to that person with exactly k loans. A loan costs one, so
+-- rounds 0 to 7 have all chains. Which of the best chains is written is fixed here; what it is worth is `Meets` alone.
+use mathlib.Core.Bool.{true, false, cond}
+use mathlib.Core.List.{List, [], _∷_, _++_}
+use Prim.Native.Nat.{ℕ, zero, suc, _+_, _-_, _*_, min}
+use lib.Dec.{eqb}
+use lib.Count.{leadingZeros}
+use lib.ListN.{length, getD, replicate}
+use Rattle.model.specs.Answers.{Found}
+use Rattle.bits.specs.Sets.{keep, tabulate, most, firstAt}
+use Rattle.delegation.specs.Loans.{keyOf, lender, borrower, loanDepth, used}
+
+-- the loans of one item and right, each once, rising
+unfoldable pub picked : List ℕ → ℕ → List ℕ
+picked t key = keep (λ w. eqb (keyOf w) key) (used t)
+
+-- 'its greatest depth is the place of its highest set bit': that place + 1, or 0 for a byte of no grant
+abbrev pub height : ℕ → ℕ
+height b = 8 - leadingZeros 8 b
+
+-- round 0, from the 64 grant bytes that begin at base
+unfoldable pub grantRound : List ℕ → ℕ → List ℕ
+grantRound gs base = tabulate 64 (λ (p : ℕ). height (getD gs (base + p) 0))
+
+-- what a loan passes on where its lender's entry is v
+abbrev pub gain : ℕ → ℕ → ℕ
+gain v w = min (v - 1) (loanDepth w + 1)
+
+-- the same where the loan is to q, else 0
+unfoldable pub arrive : ℕ → ℕ → ℕ → ℕ
+arrive v w q = cond (eqb (borrower w) q) (gain v w) 0
+
+-- the same of the loan in place i of ls
+abbrev pub arriving : List ℕ → List ℕ → ℕ → ℕ → ℕ
+arriving ls round q i = arrive (getD round (lender (getD ls i 0)) 0) (getD ls i 0) q
+
+-- one loan more
+unfoldable pub nextRound : List ℕ → List ℕ → List ℕ
+nextRound ls round = tabulate 64 (λ (q : ℕ). most (arriving ls round q) (length ls))
+
+unfoldable pub roundAt : List ℕ → List ℕ → ℕ → List ℕ
+roundAt first ls zero = first
+roundAt first ls (suc k) = nextRound ls (roundAt first ls k)
+
+-- a person's entry in each round
+abbrev pub column : List (List ℕ) → ℕ → ℕ → ℕ
+column rounds who k = getD (getD rounds k []) who 0
+
+-- the lender of the last loan among the first n that passes v on to q; 0 where there is none
+unfoldable pub lenderTo : List ℕ → List ℕ → ℕ → ℕ → ℕ → ℕ
+lenderTo ls round q v zero = 0
+lenderTo ls round q v (suc i) = cond (eqb (arriving ls round q i) v) (lender (getD ls i 0)) (lenderTo ls round q v i)
+
+-- the persons of a chain with k loans to q, read off the rounds from its end
+unfoldable pub traced : List (List ℕ) → List ℕ → ℕ → ℕ → List ℕ
+traced rounds ls zero q = q ∷ []
+traced rounds ls (suc k) q =
+    traced rounds ls k (lenderTo ls (getD rounds k []) q (column rounds q (suc k)) (length ls)) ++ (q ∷ [])
+
+-- ---- the check of a person, by the grants image gs and the loans image t
+unfoldable pub roundsOf : List ℕ → List ℕ → ℕ → List (List ℕ)
+roundsOf gs t key = tabulate 8 (roundAt (grantRound gs (8 + 64 * key)) (picked t key))
+
+-- 0, or the greatest allowance + 1
+unfoldable pub heightOf : List ℕ → List ℕ → ℕ → ℕ → ℕ
+heightOf gs t key who = most (column (roundsOf gs t key) who) 8
+
+-- the loans of the chain that is written
+unfoldable pub lengthOf : List ℕ → List ℕ → ℕ → ℕ → ℕ
+lengthOf gs t key who = firstAt (column (roundsOf gs t key) who) 8
+
+-- the answer, and the chain buffer
+unfoldable pub foundOf : List ℕ → List ℕ → ℕ → ℕ → Found
+foundOf gs t key who =
+    cond (eqb (heightOf gs t key who) 0) (record { yes = false; depth = 0; persons = 0 })
+    (record { yes = true; depth = heightOf gs t key who - 1; persons = lengthOf gs t key who + 1 })
+
+unfoldable pub chainOf : List ℕ → List ℕ → ℕ → ℕ → List ℕ
+chainOf gs t key who =
+    cond (eqb (heightOf gs t key who) 0) (replicate 8 255)
+    (traced (roundsOf gs t key) (picked t key) (lengthOf gs t key who) who ++ replicate (7 - lengthOf gs t key who) 255)

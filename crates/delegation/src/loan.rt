@@ -1,0 +1,92 @@
+// The one codec of a loan word, lender * 2^18 + on * 2^12 + right * 2^9 + borrower * 2^3 + depth, and of word 0 of a table of loans.
+// Each field is cut to its width: none depends on the bits above it.
+use model::Depth;
+use model::Item;
+use model::Right;
+ghost use mathlib.Core.Path.{_≡_};
+ghost use Rattle.model.specs.Journal.{loan};
+ghost use Rattle.delegation.specs.Loans.{wordOf, cut, lender, loanItem, loanRight, borrower, loanDepth, keyOf, keyFor, headerOf, headerWord, recounted, freshHeader};
+
+// Word 0 of a table: how many loans stand.
+pub struct Header {
+    pub count: u32,
+}
+
+impl Header {
+    // Of a table with no loan.
+    pub fn fresh() -> Header
+        ensures { λ r. ⌜ r ≡ freshHeader ⌝ }
+    {
+        Header { count: 0 }
+    }
+
+    pub fn read(word: u32) -> Header
+        ensures { λ r. ⌜ r ≡ headerOf word ⌝ }
+    {
+        Header { count: word }
+    }
+
+    pub fn word(self) -> u32
+        ensures { λ r. ⌜ r ≡ headerWord self ⌝ }
+    {
+        self.count
+    }
+
+    // The header of the same table with n loans.
+    pub fn recounted(self, n: u32) -> Header
+        ensures { λ r. ⌜ r ≡ recounted self n ⌝ }
+    {
+        Header { count: n }
+    }
+}
+
+// The word of a loan. A number beyond its range is cut to it, so that the word is one of 24 bits whatever the arguments are.
+pub fn word(lender: Item, on: Item, right: Right, borrower: Item, depth: Depth) -> u32
+    ensures { λ r. ⌜ r ≡ wordOf (cut (loan (lender .0) (on .0) (right .0) (borrower .0) (depth .0))) ⌝ }
+{
+    let of = lender.number() % 64 * 262144 + on.number() % 64 * 4096;
+    of + right.number() % 8 * 512 + borrower.number() % 64 * 8 + depth.number() % 8
+}
+
+pub fn lender(w: u32) -> Item
+    ensures { λ r. ⌜ r .0 ≡ lender w ⌝ }
+{
+    Item::cut(w / 262144)
+}
+
+pub fn item(w: u32) -> Item
+    ensures { λ r. ⌜ r .0 ≡ loanItem w ⌝ }
+{
+    Item::cut(w / 4096)
+}
+
+pub fn right(w: u32) -> Right
+    ensures { λ r. ⌜ r .0 ≡ loanRight w ⌝ }
+{
+    Right::cut(w / 512)
+}
+
+pub fn borrower(w: u32) -> Item
+    ensures { λ r. ⌜ r .0 ≡ borrower w ⌝ }
+{
+    Item::cut(w / 8)
+}
+
+pub fn depth(w: u32) -> Depth
+    ensures { λ r. ⌜ r .0 ≡ loanDepth w ⌝ }
+{
+    Depth::cut(w)
+}
+
+// An item and a right in one number, as a loan word has them, and that of a loan word.
+pub fn key(on: Item, right: Right) -> u32
+    ensures { λ r. ⌜ r ≡ keyFor (on .0) (right .0) ⌝ }
+{
+    8 * (on.number() % 64) + right.number() % 8
+}
+
+pub fn key_of(w: u32) -> u32
+    ensures { λ r. ⌜ r ≡ keyOf w ⌝ }
+{
+    w / 512 % 512
+}

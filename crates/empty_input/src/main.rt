@@ -1,4 +1,0 @@
-// Empty input.
-fn main() {
-    program::run();
-}

@@ -1,4 +1,0 @@
-// The handover examples as command lines.
-fn main() {
-    program::run();
-}

@@ -1,0 +1,9 @@
+pub mod Layouts
+pub mod Edits
+pub mod Masks
+pub mod Convert
+pub mod Subjects
+pub mod Order
+pub mod Guarding
+pub mod Ends
+pub mod Steps

@@ -1,0 +1,30 @@
+-- Each command of lists and rows, case by case: what it does to an image is what it does to the journal.
+use mathlib.Core.Path.{_≡_, refl}
+use mathlib.Core.Bool.{Bool, true, false, cond, false≢true}
+use lib.Dec.{eqb}
+use Rattle.model.specs.declared.Command.{Command}
+use Rattle.model.specs.declared.Command.the-variants.{Create, Delete, Allow, Withdraw, Lend, Recall}
+use Rattle.model.specs.Commands.{argumentsOf}
+use Rattle.model.specs.Answers.{flat}
+use Rattle.layouts.specs.Machine.{stepOf}
+use Rattle.model.specs.Journal.{Journal, answered, apply, step}
+use Rattle.layouts.specs.Layouts.{Layout, after, flatUnit}
+use Rattle.model.proofs.Invariant.{Inv}
+use Rattle.layouts.proofs.Layouts.{Laws, imageOf, answer-of, created-of, deleted-of, allowed-of, withdrawn-of}
+use Rattle.model.proofs.Steps.{flat-lends}
+
+module _ (L : Layout) (W : Laws L) where
+  after-of : (j : Journal) → Inv j → (c : Command) → flat c ≡ true → after L (imageOf L W j) (argumentsOf c) ≡ imageOf L W (apply j c)
+  after-of j v (Create by on) h = created-of L W j v by on
+  after-of j v (Delete by on) h = deleted-of L W j v by on
+  after-of j v (Allow by to on right depth) h = allowed-of L W j v by to on right depth
+  after-of j v (Withdraw by to on right) h = withdrawn-of L W j v by to on right
+  after-of j v (Lend by to on right depth) h = absurd (false≢true h)
+  after-of j v (Recall by to on right depth) h = absurd (false≢true h)
+
+  pub step-of : (j : Journal) → Inv j → (c : Command) → flat c ≡ true → stepOf (flatUnit L) (imageOf L W j) c ≡ imageOf L W (step j c)
+  step-of j v c h = rw (answer-of L W j v c (flat-lends c h)) (go (eqb (answered j c) 0))
+    where
+      go : (b : Bool) → cond b (after L (imageOf L W j) (argumentsOf c)) (imageOf L W j) ≡ imageOf L W (cond b (apply j c) j)
+      go true = after-of j v c h
+      go false = refl

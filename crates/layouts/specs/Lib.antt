@@ -1,0 +1,6 @@
+pub mod Machine
+pub mod Layouts
+pub mod Convert
+pub mod Subjects
+pub mod Live
+pub mod Order

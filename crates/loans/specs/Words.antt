@@ -1,0 +1,38 @@
+-- What the contracts of the loan table cite, beside the loans of the model.
+use mathlib.Core.Path.{_≡_}
+use mathlib.Core.Bool.{Bool, true, not, _&&_, cond}
+use mathlib.Core.List.{List}
+use Prim.Native.Nat.{ℕ, _-_}
+use lib.ListN.{length, getD}
+use lib.Dec.{eqb, ltb}
+use Rattle.bits.specs.Sets.{keep}
+use Rattle.delegation.specs.Loans.{lender, loanItem, loanRight, borrower, wordNames, rising, loanWords, headerIn, used, loansImage}
+use Rattle.loans.specs.declared.Rule.{Rule}
+use Rattle.loans.specs.declared.Rule.the-variants.{Other, Without}
+
+-- item i lives, by a mask of 64 bytes: 0 where it does, 255 where it does not
+abbrev pub unmasked : List ℕ → ℕ → Bool
+unmasked d i = eqb (getD d i 0) 0
+
+-- a loan word lies below 2^24 and is not of right 0
+abbrev pub shaped : ℕ → Bool
+shaped w = ltb w 16777216 && not (eqb (loanRight w) 0)
+
+-- the items that a loan word names live
+abbrev pub namesLive : (ℕ → Bool) → ℕ → Bool
+namesLive live w = live (lender w) && live (loanItem w) && live (borrower w)
+
+-- the loan words that a rule lets stand
+abbrev pub keepsOf : Rule → ℕ → Bool
+keepsOf (Other word) w = not (eqb word w)
+keepsOf (Without item) w = not (wordNames (item .0) w)
+
+-- how many loans a pass by the rule ends; none where the slice is no table by its length
+abbrev pub endedBy : Rule → List ℕ → ℕ
+endedBy rule t = cond (eqb (length t) loanWords) (length (used t) - length (keep (keepsOf rule) (used t))) 0
+
+-- a table that is in order, whatever items it names
+pub record Ordered (t : List ℕ) : Type 0 where
+  pub long : length t ≡ loanWords
+  pub rises : rising (used t) ≡ true
+  pub whole : t ≡ loansImage (headerIn t) (used t)

@@ -1,4 +1,0 @@
-// Input that ends in a newline.
-fn main() {
-    program::run();
-}

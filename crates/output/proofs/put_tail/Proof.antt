@@ -1,0 +1,57 @@
+use Rattle.output.specs.Output.{tailText}
+use Rattle.output.proofs.Written.{wrote-none}
+use borrow.Author.Needs.{needs}
+use native.Mathlib.Omega.{arith}
+use Rattle.output.proofs.put_tail.Statement.{statement}
+use Rattle.output.proofs.put_tail.Tie as tie
+
+enum-told : tie.Need-enum-told
+enum-told c = search needs
+
+enum-told-2 : tie.Need-enum-told-2
+enum-told-2 c = search needs
+
+slice-aggregate-put-bytes : tie.Need-slice-aggregate-put-bytes
+slice-aggregate-put-bytes c = search needs
+
+put-bytes-requires : tie.Need-put-bytes-requires
+put-bytes-requires c κs = search needs
+
+enum-known-tail : tie.Need-enum-known-tail
+enum-known-tail c = search needs
+
+put-chain-requires : tie.Need-put-chain-requires
+put-chain-requires c κs = search needs
+
+returns : tie.Need-returns
+unfolding tailText
+returns c = rw (c .enum-told .given .1) (wrote-none _ _, omega arith)
+
+same-length : tie.Need-same-length
+same-length c = search needs
+
+returns-2 : tie.Need-returns-2
+unfolding tailText
+returns-2 c = rw (c .before .before .before .before .before .enum-told2 .given .1) (c .before .before .put-bytes .ensures, omega arith)
+
+same-length-2 : tie.Need-same-length-2
+same-length-2 c = search needs
+
+returns-3 : tie.Need-returns-3
+returns-3 c = rw (c .before .before .before .before .before .tail .given .1) (c .before .before .put-chain .ensures)
+
+pub put-tail-spec : {M : Type 1} → statement M
+put-tail-spec =
+    tie.close
+    (tie.spec
+    enum-told
+    enum-told-2
+    slice-aggregate-put-bytes
+    put-bytes-requires
+    enum-known-tail
+    put-chain-requires
+    returns
+    same-length
+    returns-2
+    same-length-2
+    returns-3)

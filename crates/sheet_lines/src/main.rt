@@ -1,4 +1,0 @@
-// The question of docs/SHEET.md.
-fn main() {
-    program::run();
-}

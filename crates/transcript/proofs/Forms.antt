@@ -1,0 +1,75 @@
+-- Every line of the output has one of the forms that document 01 shows.
+use mathlib.Core.Path.{_≡_, refl, sym, ap, _∙_, subst}
+use mathlib.Core.Bool.{Bool, true, false, cond}
+use mathlib.Core.List.{List, [], _∷_, _++_}
+use Prim.Native.Nat.{ℕ, _+_}
+use lib.ListN.{length, length-map}
+use lib.Seq.{take-length}
+use Rattle.model.specs.Answers.{asked, flat}
+use Rattle.model.specs.Journal.{Journal, answered, step, hasGrant}
+use Rattle.model.specs.Chain.{granted, lent, JournalChain}
+use Rattle.lines.specs.declared.Parsed.{Parsed}
+use Rattle.lines.specs.declared.Parsed.the-variants.{Run, Ask, Malformed}
+use Rattle.output.specs.declared.reply.Said.the-variants.{Number, Yes, No}
+use Rattle.output.specs.declared.reply.Tail.the-variants.{Nothing, Dashes, Chain}
+use Rattle.lines.specs.Collect.{linesOf, parsedOf}
+use Rattle.output.specs.Output.{saidText, persons, tailText, outputLine, reply, offeredSaid}
+use Rattle.transcript.specs.Program.{outputOf}
+use Rattle.transcript.specs.Text as text
+use Rattle.transcript.specs.Text.{grantSaid, commandLine, CheckLine, LineAllowed, journalAfter, Allowed}
+use Rattle.transcript.specs.Forms.{Form, numbers, passed, refused, no, yes, Formed, last, next}
+use Rattle.transcript.proofs.Text.{text-agreement}
+
+command-form : (n : ℕ) (b : Bool) (a : ℕ) → Form n (outputLine n (reply (offeredSaid b a) (offeredSaid b a) (Number a) Nothing) [])
+unfolding outputLine saidText tailText
+command-form n true a = numbers a
+command-form n false a = passed a
+
+none-form : (n : ℕ) (b : Bool) → Form n (outputLine n (reply (cond b Yes No) (cond b Yes No) No Dashes) [])
+unfolding outputLine saidText tailText
+none-form n true = no true
+none-form n false = no false
+
+found-form : (n : ℕ) (b : Bool) (d p : ℕ) (ps : List ℕ)
+    → Form n (outputLine n (reply (cond b Yes No) (cond b Yes No) Yes (Chain d (length (p ∷ ps)))) (p ∷ ps))
+unfolding outputLine saidText tailText persons
+found-form n true d p ps = rw (take-length ps) (yes true d p ps)
+found-form n false d p ps = rw (take-length ps) (yes false d p ps)
+
+refused-form : (n a : ℕ) → Form n (outputLine n (reply (Number a) (Number a) (Number a) Dashes) [])
+unfolding outputLine saidText tailText
+refused-form n a = refused a
+
+-- a chain has a person
+some : (ps : List ℕ) (p : ℕ) → (q : ℕ) × (qs : List ℕ) × (ps ++ (p ∷ []) ≡ q ∷ qs)
+some [] p = (p, [], refl)
+some (q ∷ ps) p = (q, ps ++ (p ∷ []), refl)
+
+chain-some : (j : Journal) (o r : ℕ) {ps : List ℕ} {p a : ℕ} → JournalChain j o r ps p a → (q : ℕ) × (qs : List ℕ) × (ps ≡ q ∷ qs)
+chain-some j o r (granted {p} h) = (p, [], refl)
+chain-some j o r (lent {ps} l s c) = some ps (l .borrower)
+
+check-form : {j k : Journal} {n p o r : ℕ} {t : List ℕ} → CheckLine j k n p o r t → Form n t
+check-form {j} {k} {n} {p} {o} {r} (text.refused h) = refused-form n (asked p o r)
+check-form {j} {k} {n} {p} {o} {r} (text.none e h) = none-form n (hasGrant k p o r)
+check-form {j} {k} {n} {p} {o} {r} (text.found e g) =
+    let s = chain-some j o r (g .chain) in
+    subst (λ (ps : List ℕ). Form n (outputLine n (reply (grantSaid k p o r) (grantSaid k p o r) Yes (Chain (g .depth) (length ps))) ps)) (sym (s .2))
+    (found-form n (hasGrant k p o r) (g .depth) (s .0) (s .1))
+
+-- where one journal stands for all
+line-form : (j k : Journal) → k ≡ j → (n : ℕ) (x : Parsed) (t : List ℕ) → LineAllowed j k n x t → Form n t
+line-form j k q n (Run c) t e = subst (Form n) (sym (e ∙ ap (λ i. commandLine j i n c) q)) (command-form n (flat c) (answered j c))
+line-form j k q n (Ask who on right) t e = check-form e
+line-form j k q n Malformed t e = subst (Form n) (sym e) (command-form n true 11)
+
+after-same : (j k : Journal) (x : Parsed) → k ≡ j → journalAfter step k x ≡ journalAfter step j x
+after-same j k x q = ap (λ i. journalAfter step i x) q
+
+formed : {j k : Journal} {n : ℕ} {xs : List Parsed} {t : List ℕ} → k ≡ j → Allowed step j k n xs t → Formed n (length xs) t
+formed q text.last = last
+formed {j} {k} {n} q (text.next {x = x} t a rest) = next t (line-form j k q (n + 1) x t a) (formed (after-same j k x q) rest)
+
+-- one line of output for each line of input, and the last
+pub output-formed : (input : List ℕ) → Formed 0 (length (linesOf input)) (outputOf input)
+output-formed input = subst (λ (k : ℕ). Formed 0 k (outputOf input)) (length-map (linesOf input) parsedOf) (formed refl (text-agreement input))

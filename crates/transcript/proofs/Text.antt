@@ -1,0 +1,130 @@
+-- Demand 3 at the text interface, from `agreement`.
+use mathlib.Core.Path.{_≡_, refl, sym, ap, _∙_, subst}
+use mathlib.Core.Bool.{Bool, true, false, true≢false}
+use mathlib.Core.List.{List, [], _∷_}
+use Prim.Native.Nat.{ℕ, _+_}
+use borrow.Author.Tests.{eqb-true, eqb-false, ne-eqb}
+use lib.ListN.{length, take}
+use lib.Seq.{take-length}
+use lib.Dec.{eqb}
+use Rattle.model.specs.declared.Command.{Command}
+use Rattle.model.specs.Answers.{Found, asked, nothing, flat}
+use Rattle.model.specs.Journal.{Journal, answered, fresh, step, hasGrant}
+use Rattle.layouts.specs.Machine.{answerOf}
+use Rattle.layouts.specs.Layouts.{lists, rows, flatUnit}
+use Rattle.model.specs.Chain.{Meets, JournalChain}
+use Rattle.delegation.specs.ChainUnit.{chainFound, chainBuffer}
+use Rattle.agreement.specs.Agreement.{Units, freshUnits, Agrees, Answers, Follows, flatStep}
+use Rattle.bits.proofs.Sets.{by-cases}
+use Rattle.agreement.proofs.Agreement.{agreement, own-agreement}
+use Rattle.lines.specs.declared.Parsed.{Parsed}
+use Rattle.lines.specs.declared.Parsed.the-variants.{Run, Ask, Malformed}
+use Rattle.output.specs.declared.reply.Said.{Said}
+use Rattle.output.specs.declared.reply.Said.the-variants.{Number, Yes, No}
+use Rattle.output.specs.declared.reply.Tail.{Tail}
+use Rattle.output.specs.declared.reply.Tail.the-variants.{Nothing, Dashes, Chain}
+use Rattle.output.specs.declared.reply.Reply.{Reply}
+use Rattle.output.specs.Output.{tailText, outputLine, reply, offeredSaid, checkSaid, checkTail, lentBuffer}
+use Rattle.transcript.specs.Program.{replyOf, viaOf, unitsAfter, outputFrom, asksOf, outputOf}
+use Rattle.transcript.specs.Text.{grantSaid, commandLine, CheckLine, refused, none, found, Allowed, last, next}
+
+-- the commands among what is asked
+commandsOf : List Parsed → List Command
+commandsOf [] = []
+commandsOf (Run c ∷ xs) = c ∷ commandsOf xs
+commandsOf (Ask who on right ∷ xs) = commandsOf xs
+commandsOf (Malformed ∷ xs) = commandsOf xs
+
+first-agrees : (feed : Journal → Command → Journal) (cs : List Command) (j k : Journal) (u : Units) → Follows feed j k u cs → Agrees j k u
+first-agrees feed [] j k u h = h
+first-agrees feed (c ∷ cs) j k u h = h .0
+
+-- a command's line
+offered : (b : Bool) (m n : ℕ) → (b ≡ true → m ≡ n) → offeredSaid b m ≡ offeredSaid b n
+offered true m n h = ap Number (h refl)
+offered false m n h = refl
+
+command-line : (j k : Journal) (u : Units) (n : ℕ) (c : Command) → Answers j k u c → outputLine n (replyOf u (Run c)) (viaOf u (Run c)) ≡ commandLine j k n c
+unfolding replyOf viaOf outputLine tailText
+command-line j k u n c a =
+    let l = offered (flat c) (answerOf (flatUnit lists) (u .lists) c) (answered k c) (a .list) in
+    let r = offered (flat c) (answerOf (flatUnit rows) (u .rows) c) (answered k c) (a .row) in
+    rw (l, r, a .chain)
+
+malformed-line : (u : Units) (n : ℕ) → outputLine n (replyOf u Malformed) (viaOf u Malformed) ≡ outputLine n (reply (Number 11) (Number 11) (Number 11) Nothing) []
+unfolding replyOf viaOf outputLine tailText
+malformed-line u n = refl
+
+-- ---- a check's line
+-- a line depends on the chain buffer through its tail alone
+same-line : (n : ℕ) (l r c : Said) (t t′ : Tail) (via via′ : List ℕ) → tailText t via ≡ tailText t′ via′
+    → outputLine n (reply l r c t) via ≡ outputLine n (reply l r c t′) via′
+unfolding outputLine
+same-line n l r c t t′ via via′ e = rw e
+
+dashes-line : (n : ℕ) (l r c : Said) (via : List ℕ) → outputLine n (reply l r c Dashes) via ≡ outputLine n (reply l r c Dashes) []
+dashes-line n l r c via = same-line n l r c Dashes Dashes via [] (unfold tailText in refl)
+
+chain-line : (n : ℕ) (l r c : Said) (d k : ℕ) (via : List ℕ)
+    → outputLine n (reply l r c (Chain d k)) via ≡ outputLine n (reply l r c (Chain d (length (take k via)))) (take k via)
+chain-line n l r c d k via = same-line n l r c (Chain d k) (Chain d (length (take k via))) via (take k via) (unfold tailText in (rw take-length))
+
+module _ (j k : Journal) (n p o r : ℕ) where
+  -- the reply to a check, where f was found
+  abbrev checked : ℕ → Found → Reply
+  checked m f = reply (checkSaid m (hasGrant k p o r)) (checkSaid m (hasGrant k p o r)) (checkSaid m (f .yes)) (checkTail f)
+
+  check-refused : (via : List ℕ) → (asked p o r ≡ 0 → ⊥) → CheckLine j k n p o r (outputLine n (checked (asked p o r) nothing) via)
+  check-refused via ne =
+      subst (CheckLine j k n p o r) (sym (rw (ne-eqb (asked p o r) 0 ne) (dashes-line n (Number (asked p o r)) (Number (asked p o r)) (Number (asked p o r)) via)))
+      (refused ne)
+
+  check-settled : (f : Found) (via : List ℕ) → asked p o r ≡ 0 → Meets (λ ps a. JournalChain j o r ps p a) f via
+      → CheckLine j k n p o r (outputLine n (checked 0 f) via)
+  check-settled f via e m =
+      by-cases (f .yes)
+      (λ y. subst (CheckLine j k n p o r)
+      (sym (rw y (chain-line n (grantSaid k p o r) (grantSaid k p o r) Yes (f .depth) (f .persons) via)))
+      (found e (record { persons = take (f .persons) via; depth = f .depth; chain = m .shown y; most = λ ps b c. m .greatest ps b c .1 })))
+      (λ y. subst (CheckLine j k n p o r) (sym (rw y (dashes-line n (grantSaid k p o r) (grantSaid k p o r) No via)))
+      (none e (λ ps b c. true≢false (sym (m .greatest ps b c .0) ∙ y))))
+
+  module _ (u : Units) (a : Agrees j k u) where
+    check-reply : replyOf u (Ask p o r) ≡ checked (asked p o r) (chainFound (u .chains) lentBuffer p o r)
+    unfolding replyOf
+    check-reply =
+        λ i. reply (checkSaid (a .list .number p o r i) (a .list .yes p o r i)) (checkSaid (a .row .number p o r i) (a .row .yes p o r i))
+        (checkSaid (a .chain .number lentBuffer refl p o r i) (chainFound (u .chains) lentBuffer p o r .yes)) (checkTail (chainFound (u .chains) lentBuffer p o r))
+
+    check-line : CheckLine j k n p o r (outputLine n (replyOf u (Ask p o r)) (viaOf u (Ask p o r)))
+    unfolding viaOf
+    check-line =
+        by-cases (eqb (asked p o r) 0)
+        (λ q. let e = eqb-true (asked p o r) 0 q in
+        subst (λ x. CheckLine j k n p o r (outputLine n x (chainBuffer (u .chains) lentBuffer p o r)))
+        (sym (check-reply ∙ ap (λ (m : ℕ). checked m (chainFound (u .chains) lentBuffer p o r)) e))
+        (check-settled (chainFound (u .chains) lentBuffer p o r) (chainBuffer (u .chains) lentBuffer p o r) e (a .chain .meets lentBuffer refl p o r e)))
+        (λ q. let ne = eqb-false (asked p o r) 0 q in
+        subst (λ x. CheckLine j k n p o r (outputLine n x (chainBuffer (u .chains) lentBuffer p o r)))
+        (sym (check-reply ∙ ap (checked (asked p o r)) (a .chain .beyond lentBuffer refl p o r ne .0)))
+        (check-refused (chainBuffer (u .chains) lentBuffer p o r) ne))
+
+-- ---- all lines
+allowed : (feed : Journal → Command → Journal) (xs : List Parsed) (j k : Journal) (u : Units) (n : ℕ) → Follows feed j k u (commandsOf xs)
+    → Allowed feed j k n xs (outputFrom n u xs)
+unfolding commandsOf outputFrom unitsAfter
+allowed feed [] j k u n h = last
+allowed feed (Run c ∷ xs) j k u n h = next _ (command-line j k u (n + 1) c (h .1)) (allowed feed xs _ _ _ (n + 1) (h .2))
+allowed feed (Ask who on right ∷ xs) j k u n h =
+    next _ (check-line j k (n + 1) who on right u (first-agrees feed (commandsOf xs) j k u h)) (allowed feed xs j k u (n + 1) h)
+allowed feed (Malformed ∷ xs) j k u n h = next _ (malformed-line u (n + 1)) (allowed feed xs j k u (n + 1) h)
+
+-- for every input, the output is one that the journal allows
+pub text-agreement : (input : List ℕ) → Allowed step fresh fresh 0 (asksOf input) (outputOf input)
+unfolding outputOf
+text-agreement input = allowed step (asksOf input) fresh fresh freshUnits 0 (agreement (commandsOf (asksOf input)))
+
+-- and one that the journal allows with, for lists and rows, a journal of the commands that they have
+pub own-text-agreement : (input : List ℕ) → Allowed flatStep fresh fresh 0 (asksOf input) (outputOf input)
+unfolding outputOf
+own-text-agreement input = allowed flatStep (asksOf input) fresh fresh freshUnits 0 (own-agreement (commandsOf (asksOf input)))
