@@ -25,18 +25,20 @@ use Rattle.agreement.specs.Agreement.{Units, freshUnits, FlatAgrees, Cha
 use Rattle.bits.proofs.Sets.{fst, snd, both, find, found}
 use Rattle.bits.proofs.Sets as sets
 use Rattle.model.proofs.Chain.{chain-length, chain-map, meets-map, meets-access, access-iff}
-use Rattle.model.proofs.Invariant.{ranged, same-loan, loan-self, Inv, inv-fresh, rangedLoan, loans-ranged}
-use Rattle.layouts.proofs.Layouts.{Laws, imageOf, lists-laws, rows-laws, bytes-laws, guard-of, check-of, answer-of, fresh-of, cells-of}
+use Rattle.model.specs.Invariant.{ranged, Inv, rangedLoan, Kept, Alike}
+use Rattle.model.proofs.Invariant.{same-loan, loan-self, inv-fresh, loans-ranged}
+use Rattle.layouts.specs.Laws.{Laws, imageOf}
+use Rattle.layouts.proofs.Layouts.{lists-laws, rows-laws, bytes-laws, guard-of, check-of, answer-of, fresh-of, cells-of}
 use Rattle.model.proofs.Answers.{table-same}
 use Rattle.delegation.proofs.Rules.{check-meets}
 use Rattle.delegation.proofs.Loans.{word-fields, word-in, sorted, any-sorted, used-of}
-use Rattle.model.proofs.Steps.{inv-step, Kept, kept-fresh, kept-step, flat-lends, Alike, alike-apply}
+use Rattle.model.proofs.Steps.{inv-step, kept-fresh, kept-step, flat-lends, alike-apply}
 use Rattle.layouts.proofs.Steps.{step-of}
 use Rattle.delegation.proofs.Steps.{grantsOf, headerFor, imagesOf, few-sorted}
 use Rattle.delegation.proofs.ChainUnit.{guard-chain, answer-chain, step-chain, fresh-chain, stands-ranged, standing-of}
 
 -- ---- lists and rows
-flat-agrees : (L : Layout) (W : Laws L) (j : Journal) → Inv j → FlatAgrees L j (imageOf L W j)
+flat-agrees : (L : Layout) (W : Laws L) (j : Journal) → Inv j → FlatAgrees L j (imageOf L j)
 flat-agrees L W j v = record {
   number = λ p o r. guard-of L W j v (asked p o r);
   yes = λ p o r. check-of L W j v p o r;
@@ -45,7 +47,7 @@ flat-agrees L W j v = record {
 
 -- a unit that lacks the command is not called
 flat-called : (L : Layout) (W : Laws L) (k : Journal) (c : Command) → Inv k
-    → cond (flat c) (stepOf (flatUnit L) (imageOf L W k) c) (imageOf L W k) ≡ imageOf L W (flatStep k c)
+    → cond (flat c) (stepOf (flatUnit L) (imageOf L k) c) (imageOf L k) ≡ imageOf L (flatStep k c)
 flat-called L W k c v = sets.by-cases (flat c) (λ t. rw t (step-of L W k v c t)) (λ t. rw t)
 
 inv-flat : (k : Journal) (c : Command) → Inv k → Inv (flatStep k c)
@@ -63,7 +65,8 @@ module _ (j : Journal) (v : Kept j) (o r : ℕ) where
       → (l : Loan) × LoanStands j o r l × (l .lender ≡ lender w) × (l .borrower ≡ borrower w) × (l .depth ≡ loanDepth w)
   word-loan w s =
       let m : any (λ l. eqb w (wordOf l)) (j .loans) ≡ true
-      = sym (any-sorted (eqb w) (j .loans)) ∙ ap (any (eqb w)) (sym (used-of (headerFor j) (sorted (j .loans)) (few-sorted j (v .loan-inv)))) ∙ s .0 in
+      = sym (any-sorted (eqb w) (j .loans))
+      ∙ ap (any (eqb w)) (sym (used-of (headerFor j) (sorted (j .loans)) (few-sorted j (v .loan-inv)))) ∙ s .0 in
       let f = found (λ l. eqb w (wordOf l)) sameLoan loan-self (j .loans) m in
       let e : w ≡ wordOf (f .0) = eqb-true w (wordOf (f .0)) (f .1) in
       let k = word-fields (f .0) (loan-ranged (f .0) (f .2)) in (
@@ -82,7 +85,8 @@ module _ (j : Journal) (v : Kept j) (o r : ℕ) where
       let k = word-fields l g in (
         wordOf l,
         (
-          ap (any (eqb (wordOf l))) (used-of (headerFor j) (sorted (j .loans)) (few-sorted j (v .loan-inv))) ∙ word-in l (j .loans) g (loans-ranged j (v .loan-inv)) ∙ s .0,
+          ap (any (eqb (wordOf l))) (used-of (headerFor j) (sorted (j .loans)) (few-sorted j (v .loan-inv)))
+              ∙ word-in l (j .loans) g (loans-ranged j (v .loan-inv)) ∙ s .0,
           k .1 ∙ s .1,
           k .2 ∙ s .2,
         ),
@@ -103,7 +107,8 @@ module _ (j : Journal) (v : Kept j) (o r : ℕ) where
 
   -- every chain is within the limits
   chain-asked : {ps : List ℕ} {p a : ℕ} → JournalChain j o r ps p a → items p o && rightDepth r 0 ≡ true
-  chain-asked (granted {p} {e} h) = let k : ranged (grant p o r e) ≡ true = stands-ranged j (v .inv) (grant p o r e) h in search (fst, snd, both)
+  chain-asked (granted {p} {e} h) =
+      let k : ranged (grant p o r e) ≡ true = stands-ranged j (v .inv) (grant p o r e) h in search (fst, snd, both)
   chain-asked (lent l s c) =
       let k : rangedLoan l ≡ true = loan-ranged l (s .0) in
       let a : leb (l .borrower) 63 ≡ true = search (fst, snd) in
@@ -117,16 +122,19 @@ bytes-of j i = unfold grantBytes in (cells-of grantBytes bytes-laws j i)
 -- no chain of a journal has more than 8 persons
 pub journal-short : (j : Journal) → Kept j → {o r : ℕ} {ps : List ℕ} {p a : ℕ} → JournalChain j o r ps p a → length ps + a ≤ 8
 journal-short j v {o} {r} c =
-    chain-length (λ p e h. let k : ranged (grant p o r e) ≡ true = stands-ranged j (v .inv) (grant p o r e) h in search (fst, snd, leb-true)) c
+    chain-length (λ p e h. let k : ranged (grant p o r e) ≡ true = stands-ranged j (v .inv) (grant p o r e) h in
+    search (fst, snd, leb-true)) c
 
 -- a check of the journal's images, beyond the limits and within them
 module _ (j : Journal) (v : Kept j) (buffer : List ℕ) (l : length buffer ≡ 8) (p o r : ℕ) where
   number-of : chainCheckNumber (imagesOf j) buffer p o r ≡ asked p o r
   number-of = rw (eq-eqb (length buffer) 8 l) (guard-chain j v (asked p o r))
 
-  meets-of : asked p o r ≡ 0 → Meets (λ ps a. JournalChain j o r ps p a) (chainFound (imagesOf j) buffer p o r) (chainBuffer (imagesOf j) buffer p o r)
+  meets-of : asked p o r ≡ 0 → Meets (λ ps a. JournalChain j o r ps p a) (chainFound (imagesOf j) buffer p o r)
+      (chainBuffer (imagesOf j) buffer p o r)
   meets-of e =
-      meets-map (check-meets (imagesOf j) (bytes-of j) buffer p o r (number-of ∙ e)) (λ ps a. to-journal j v o r ps p a) (λ ps a. to-images j v o r ps p a)
+      meets-map (check-meets (imagesOf j) (bytes-of j) buffer p o r (number-of ∙ e)) (λ ps a. to-journal j v o r ps p a)
+      (λ ps a. to-images j v o r ps p a)
 
   beyond-of : (asked p o r ≡ 0 → ⊥)
       → (chainFound (imagesOf j) buffer p o r ≡ nothing) × (chainBuffer (imagesOf j) buffer p o r ≡ buffer)
@@ -135,7 +143,8 @@ module _ (j : Journal) (v : Kept j) (buffer : List ℕ) (l : length buffer ≡ 8
       let f : eqb (chainCheckNumber (imagesOf j) buffer p o r) 0 ≡ false = ne-eqb _ 0 (λ z. ne (sym number-of ∙ z)) in
       (rw f, rw f, λ ps a c. ne (rw (chain-asked j v o r c)))
 
-  rules-of : (d : ℕ) → JournalAccess j p o r d ↔ (chainFound (imagesOf j) buffer p o r .yes ≡ true) × (d ≤ chainFound (imagesOf j) buffer p o r .depth)
+  rules-of : (d : ℕ) → JournalAccess j p o r d ↔ (chainFound (imagesOf j) buffer p o r .yes ≡ true)
+      × (d ≤ chainFound (imagesOf j) buffer p o r .depth)
   rules-of d =
       by-cases (ℕ-discrete (asked p o r) 0) (λ e. meets-access _ _ _ _ _ p o r (meets-of e) d)
       (λ ne. let b = beyond-of ne in (
@@ -154,7 +163,7 @@ chain-agrees j v = record {
 
 -- ---- the units of two journals
 abbrev pub unitsOf : Journal → Journal → Units
-unitsOf j k = record { lists = imageOf lists lists-laws k; rows = imageOf rows rows-laws k; chains = imagesOf j }
+unitsOf j k = record { lists = imageOf lists k; rows = imageOf rows k; chains = imagesOf j }
 
 abbrev units : List ℕ → List ℕ → Images → Units
 units a b c = record { lists = a; rows = b; chains = c }
@@ -195,11 +204,13 @@ alike-answered : {j k : Journal} → Alike j k → (c : Command) → flat c ≡ 
 alike-answered {j} {k} a c h =
     let x = argumentsOf c in
     ap (λ (n : ℕ). cond (not (fits x)) 3 n)
-    (table-same (facts j x) (facts k x) (ap (any (eqb (x .by))) (a .live)) (ap (any (eqb (x .on))) (a .live)) (ap (any (eqb (x .to))) (a .live))
+    (table-same (facts j x) (facts k x) (ap (any (eqb (x .by))) (a .live)) (ap (any (eqb (x .on))) (a .live))
+    (ap (any (eqb (x .to))) (a .live))
     (ap (any (isTo (x .by) (x .on) 0)) (a .grants)) x (λ n. absurd (false≢true (sym (flat-lends c h) ∙ n))))
 
 alike-step : {j k : Journal} → Alike j k → (c : Command) → Alike (step j c) (flatStep k c)
-alike-step {j} {k} a c = go (flat c) (eqb (answered j c) 0) (eqb (answered k c) 0) refl (λ h. ap (λ (n : ℕ). eqb n 0) (alike-answered a c h))
+alike-step {j} {k} a c =
+    go (flat c) (eqb (answered j c) 0) (eqb (answered k c) 0) refl (λ h. ap (λ (n : ℕ). eqb n 0) (alike-answered a c h))
   where
     -- an accepted command, as lists and rows have it or not
     done : (f : Bool) → flat c ≡ f → Alike (apply j c) (cond f (apply k c) k)

@@ -38,7 +38,8 @@ same-list [] [] e = refl
 same-list [] (y ∷ ys) e = absurd (false≢true e)
 same-list (x ∷ xs) [] e = absurd (false≢true e)
 same-list (x ∷ xs) (y ∷ ys) e =
-    ap₂ (λ (z : ℕ) (zs : List ℕ). z ∷ zs) (eqb-true x y (fst (eqb x y) (sameList xs ys) e)) (same-list xs ys (snd (eqb x y) (sameList xs ys) e))
+    ap₂ (λ (z : ℕ) (zs : List ℕ). z ∷ zs) (eqb-true x y (fst (eqb x y) (sameList xs ys) e))
+    (same-list xs ys (snd (eqb x y) (sameList xs ys) e))
 
 list-self : (xs : List ℕ) → sameList xs xs ≡ true
 unfolding sameList
@@ -74,7 +75,8 @@ any-map p f [] = refl
 any-map p f (x ∷ xs) = ap (λ b. p (f x) || b) (any-map p f xs)
 
 -- ---- a route more by a loan
-extended-in : (l : Loan) (t : Route) (ls : List Loan) (ts : List Route) → any (sameLoan l) ls ≡ true → any (sameRoute t) ts ≡ true → extends l t ≡ true
+extended-in : (l : Loan) (t : Route) (ls : List Loan) (ts : List Route) → any (sameLoan l) ls ≡ true → any (sameRoute t) ts ≡ true
+    → extends l t ≡ true
     → any (sameRoute (onward l t)) (extended ls ts) ≡ true
 unfolding extended any
 extended-in l t [] ts h k e = h
@@ -137,7 +139,8 @@ module _ (j : Journal) (o r : ℕ) where
       let k = on-key (f .0 .item) (f .0 .right) (fst (eqb (f .0 .item) o && eqb (f .0 .right) r) _ (f .1)) in
       let e : t ≡ start (f .0) = same-route t (start (f .0)) (snd (eqb (f .0 .item) o && eqb (f .0 .right) r) _ (f .1)) in
       let s : any (sameGrant (grant (f .0 .person) o r (f .0 .depth))) (j .grants) ≡ true
-      = rw (k .0, k .1) at (let w : any (sameGrant (grant (f .0 .person) (f .0 .item) (f .0 .right) (f .0 .depth))) (j .grants) ≡ true = f .2 in w) in
+      = rw (k .0, k .1) at (let w : any (sameGrant (grant (f .0 .person) (f .0 .item) (f .0 .right) (f .0 .depth)))
+      (j .grants) ≡ true = f .2 in w) in
       subst (λ u. JournalChain j o r (u .persons) (u .last) (u .allowance)) (sym e) (granted s)
   route-chain (suc k) t h =
       let x = extended-out t (keep (λ l. eqb (l .item) o && eqb (l .right) r) (j .loans)) (routes j o r k) h in
@@ -152,20 +155,27 @@ module _ (j : Journal) (o r : ℕ) where
       let c′ : JournalChain j o r (x .from .persons) (x .by .lender) (suc (x .from .allowance - 1))
       = moved (x .from .persons) e b c in
       subst (λ u. JournalChain j o r (u .persons) (u .last) (u .allowance)) (sym (x .gives))
-      (lent (x .by) (ap (λ l. any (sameLoan l) (j .loans)) q ∙ f .2, ap (λ (l : Loan). l .item) q ∙ m .0, ap (λ (l : Loan). l .right) q ∙ m .1) c′)
+      (lent (x .by) (
+        ap (λ l. any (sameLoan l) (j .loans)) q ∙ f .2,
+        ap (λ (l : Loan). l .item) q ∙ m .0,
+        ap (λ (l : Loan). l .right) q
+            ∙ m .1,
+      ) c′)
     where
       moved : (ps : List ℕ) {p q a b : ℕ} → p ≡ q → a ≡ b → JournalChain j o r ps p a → JournalChain j o r ps q b
       moved ps {p} {q} {a} {b} e f c = subst (λ (n : ℕ). JournalChain j o r ps q n) f (subst (λ (n : ℕ). JournalChain j o r ps n a) e c)
 
   -- and each chain is a route
-  chain-route : {ps : List ℕ} {p a : ℕ} → JournalChain j o r ps p a → (k : ℕ) × (length ps ≡ suc k) × (any (sameRoute (route ps p a)) (routes j o r k) ≡ true)
+  chain-route : {ps : List ℕ} {p a : ℕ} → JournalChain j o r ps p a → (k : ℕ) × (length ps ≡ suc k)
+      × (any (sameRoute (route ps p a)) (routes j o r k) ≡ true)
   unfolding routes
   chain-route (granted {p} {e} h) = (
     0,
     refl,
     any-map (sameRoute (start (grant p o r e))) start (keep (λ g. eqb (g .item) o && eqb (g .right) r) (j .grants))
         ∙ any-keep (λ g. sameRoute (start (grant p o r e)) (start g)) (λ g. eqb (g .item) o && eqb (g .right) r) (j .grants)
-        ∙ any-same (λ g. (eqb (g .item) o && eqb (g .right) r) && sameRoute (start (grant p o r e)) (start g)) sameGrant same-grant (grant p o r e) (j .grants) h
+        ∙ any-same (λ g. (eqb (g .item) o && eqb (g .right) r) && sameRoute (start (grant p o r e)) (start g)) sameGrant same-grant
+        (grant p o r e) (j .grants) h
         (both (both (eqb-self o) (eqb-self r)) (route-self (start (grant p o r e)))),
   )
   chain-route (lent {ps} {a} l s c) =
@@ -176,9 +186,11 @@ module _ (j : Journal) (o r : ℕ) where
       (both (both (eq-eqb (l .item) o (s .1)) (eq-eqb (l .right) r (s .2))) (loan-self l)) in (
         suc (x .0),
         simp length-append (omega (arith, x .1)),
-        subst (λ (b : ℕ). any (sameRoute (route (ps ++ (l .borrower ∷ [])) (l .borrower) (min b (l .depth)))) (routes j o r (suc (x .0))) ≡ true)
+        subst (λ (b : ℕ). any (sameRoute (route (ps ++ (l .borrower ∷ [])) (l .borrower) (min b (l .depth))))
+            (routes j o r (suc (x .0))) ≡ true)
             (let z : suc a - 1 ≡ a = omega arith in z)
-            (extended-in l (route ps (l .lender) (suc a)) _ (routes j o r (x .0)) in-key (x .2) (both (eqb-self (l .lender)) (le-leb 1 (suc a) (omega arith)))),
+            (extended-in l (route ps (l .lender) (suc a)) _ (routes j o r (x .0)) in-key (x .2)
+            (both (eqb-self (l .lender)) (le-leb 1 (suc a) (omega arith)))),
       )
 
   -- a chain has at most seven loans
@@ -243,12 +255,16 @@ module _ {C : List ℕ → ℕ → Type 0} {f : Found} {buffer : List ℕ} (m : 
       let low = highest-above (route (take (f .persons) buffer) p (f .depth)) (t ∷ ts) shown in
       let high = m .greatest (u .0 .persons) (u .0 .allowance) (from (u .0) (u .1)) .1 in
       let e : f .depth ≡ highest (t ∷ ts) = omega (arith, low, high, u .2) in
-      let within : any (sameList (take (f .persons) buffer)) (map (λ (x : Route). x .persons) (keep (λ x. eqb (x .allowance) (highest (t ∷ ts))) (t ∷ ts))) ≡ true
-      = any-map (sameList (take (f .persons) buffer)) (λ (x : Route). x .persons) (keep (λ x. eqb (x .allowance) (highest (t ∷ ts))) (t ∷ ts))
+      let within : any (sameList (take (f .persons) buffer))
+      (map (λ (x : Route). x .persons) (keep (λ x. eqb (x .allowance) (highest (t ∷ ts))) (t ∷ ts))) ≡ true
+      = any-map (sameList (take (f .persons) buffer)) (λ (x : Route). x .persons)
+      (keep (λ x. eqb (x .allowance) (highest (t ∷ ts))) (t ∷ ts))
       ∙ any-keep (λ x. sameList (take (f .persons) buffer) (x .persons)) (λ x. eqb (x .allowance) (highest (t ∷ ts))) (t ∷ ts)
       ∙ any-same (λ x. eqb (x .allowance) (highest (t ∷ ts)) && sameList (take (f .persons) buffer) (x .persons)) sameRoute same-route
-      (route (take (f .persons) buffer) p (f .depth)) (t ∷ ts) shown (both (eq-eqb (f .depth) (highest (t ∷ ts)) e) (list-self (take (f .persons) buffer))) in
-      rw (y, e) (ap (yes (highest (t ∷ ts))) (only (map (λ (x : Route). x .persons) (keep (λ x. eqb (x .allowance) (highest (t ∷ ts))) (t ∷ ts))) d within))
+      (route (take (f .persons) buffer) p (f .depth)) (t ∷ ts) shown
+      (both (eq-eqb (f .depth) (highest (t ∷ ts)) e) (list-self (take (f .persons) buffer))) in
+      rw (y, e) (ap (yes (highest (t ∷ ts)))
+      (only (map (λ (x : Route). x .persons) (keep (λ x. eqb (x .allowance) (highest (t ∷ ts))) (t ∷ ts))) d within))
     where
       only : (L : List (List ℕ)) → single L ≡ true → any (sameList (take (f .persons) buffer)) L ≡ true → take (f .persons) buffer ∷ [] ≡ L
       only [] d h = absurd (false≢true d)
@@ -258,7 +274,8 @@ module _ {C : List ℕ → ℕ → Type 0} {f : Found} {buffer : List ℕ} (m : 
       only (qs ∷ rs ∷ L) d h = absurd (false≢true d)
 
 -- ---- the units after a list of commands
-last-agrees : (cs : List Command) (j k : Journal) (u : Units) → Follows flatStep j k u cs → Agrees (run j cs) (fed flatStep k cs) (calls u cs)
+last-agrees : (cs : List Command) (j k : Journal) (u : Units) → Follows flatStep j k u cs
+    → Agrees (run j cs) (fed flatStep k cs) (calls u cs)
 unfolding calls
 last-agrees [] j k u h = h
 last-agrees (c ∷ cs) j k u h = last-agrees cs (step j c) (flatStep k c) (called u c) (h .2)
@@ -302,7 +319,8 @@ chain-says cs (checks p) d w =
     let b = journal-short (run fresh cs) (kept-run cs fresh kept-fresh) c in
     any-keep (sameRoute (route ps p a)) (λ u. eqb (u .last) p) (routesTo (run fresh cs) 9 1 7)
     ∙ any-same (λ u. eqb (u .last) p && sameRoute (route ps p a) u) sameRoute same-route (route ps p a) (routesTo (run fresh cs) 9 1 7)
-    (in-up-to (run fresh cs) 9 1 (sameRoute (route ps p a)) (x .0) 7 (omega (arith, x .1)) (x .2)) (both (eqb-self p) (route-self (route ps p a))))
+    (in-up-to (run fresh cs) 9 1 (sameRoute (route ps p a)) (x .0) 7 (omega (arith, x .1)) (x .2))
+    (both (eqb-self p) (route-self (route ps p a))))
     d
 
 same-outcomes : (f g : Example → Said) (q : Example → Bool) (es : List Example) → all q es ≡ true → ((e : Example) → q e ≡ true → f e ≡ g e)
@@ -320,7 +338,8 @@ all-settled = refl
 pub chains-hold : map chainOutcome examples ≡ map (λ (e : Example). e .expected) examples
 chains-hold =
     same-outcomes chainOutcome outcome settled examples all-settled
-    (λ e h. chain-says (base ++ e .first) (e .question) (fst (decided (outcome e)) (within (e .question)) h) (snd (decided (outcome e)) (within (e .question)) h))
+    (λ e h. chain-says (base ++ e .first) (e .question) (fst (decided (outcome e)) (within (e .question)) h)
+    (snd (decided (outcome e)) (within (e .question)) h))
     ∙ examples-hold
 
 -- and of lists and rows, the commands that they have and every check

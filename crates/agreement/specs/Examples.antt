@@ -20,29 +20,34 @@ pub record Route : Type 0 where
   pub last : ℕ
   pub allowance : ℕ
 
+-- a route by its parts
 abbrev pub route : List ℕ → ℕ → ℕ → Route
 route ps p a = record { persons = ps; last = p; allowance = a }
 
+-- a route of one person: a grant
 abbrev pub start : Grant → Route
 start g = route (g .person ∷ []) (g .person) (g .depth)
 
--- a loan that follows a route, and the route with it
+-- the loan follows the route: it is by its last person, and there is allowance left
 abbrev pub extends : Loan → Route → Bool
 extends l t = eqb (t .last) (l .lender) && leb 1 (t .allowance)
 
+-- the route with the loan
 abbrev pub onward : Loan → Route → Route
 onward l t = route (t .persons ++ (l .borrower ∷ [])) (l .borrower) (min (t .allowance - 1) (l .depth))
 
+-- the routes that these loans make of those
 unfoldable pub extended : List Loan → List Route → List Route
 extended [] ts = []
 extended (l ∷ ls) ts = map (onward l) (keep (extends l) ts) ++ extended ls ts
 
 module _ (j : Journal) (o r : ℕ) where
-  -- those with k loans on item o and right r, and with at most n
+  -- those with k loans, on item o and right r
   unfoldable pub routes : ℕ → List Route
   routes zero = map start (keep (λ (g : Grant). eqb (g .item) o && eqb (g .right) r) (j .grants))
   routes (suc k) = extended (keep (λ (l : Loan). eqb (l .item) o && eqb (l .right) r) (j .loans)) (routes k)
 
+  -- all with at most n loans
   unfoldable pub routesTo : ℕ → List Route
   routesTo zero = routes zero
   routesTo (suc n) = routesTo n ++ routes (suc n)
@@ -61,10 +66,12 @@ pub data Said : Type 0 where
   flatYes : Said
   yes : ℕ → List (List ℕ) → Said
 
+-- the greatest last allowance among some routes
 unfoldable pub highest : List Route → ℕ
 highest [] = 0
 highest (t ∷ ts) = max (t .allowance) (highest ts)
 
+-- what some routes to one person say: no where there is none, else the greatest allowance and the persons of each that has it
 unfoldable pub best : List Route → Said
 best [] = no
 best (t ∷ ts) =
@@ -94,6 +101,7 @@ row cs q s f = record { first = cs; question = q; expected = s; flat = f }
 unfoldable pub base : List Command
 base = Create 0 3 ∷ Create 0 4 ∷ Create 0 5 ∷ Create 0 9 ∷ Allow 0 3 9 1 2 ∷ Lend 3 4 9 1 1 ∷ Lend 4 5 9 1 0 ∷ []
 
+-- the paper's examples, a row each, in its order
 unfoldable pub examples : List Example
 examples =
     -- E1 to E3
@@ -139,9 +147,11 @@ unfoldable pub calls : Units → List Command → Units
 calls u [] = u
 calls u (c ∷ cs) = calls (called u c) cs
 
+-- the three units after an example's commands
 abbrev pub unitsAfter : Example → Units
 unitsAfter e = calls freshUnits (base ++ e .first)
 
+-- what was found, with the chain that was written
 abbrev pub saidOf : Found → List ℕ → Said
 saidOf f buffer = cond (f .yes) (yes (f .depth) (take (f .persons) buffer ∷ [])) no
 
@@ -150,6 +160,7 @@ abbrev pub chainSaid : Units → Question → Said
 chainSaid u (asks c) = number (answerOf chainUnit (u .chains) c)
 chainSaid u (checks p) = saidOf (chainFound (u .chains) (replicate 8 0) p 9 1) (chainBuffer (u .chains) (replicate 8 0) p 9 1)
 
+-- what the chain unit says to an example's question
 abbrev pub chainOutcome : Example → Said
 chainOutcome e = chainSaid (unitsAfter e) (e .question)
 
@@ -158,8 +169,10 @@ abbrev pub unitSaid : Layout → List ℕ → Question → Said
 unitSaid L s (asks c) = cond (flat c) (number (answerOf (flatUnit L) s c)) passed
 unitSaid L s (checks p) = cond (checkYes L s p 9 1) flatYes no
 
+-- the same of lists
 abbrev pub listOutcome : Example → Said
 listOutcome e = unitSaid lists (unitsAfter e .lists) (e .question)
 
+-- and of rows
 abbrev pub rowOutcome : Example → Said
 rowOutcome e = unitSaid rows (unitsAfter e .rows) (e .question)

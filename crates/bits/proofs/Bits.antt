@@ -43,7 +43,8 @@ half-lt w n h = omega (arith, pow-succ' 2 w)
 pub ext : (w a b : ℕ) → a < 2 ^ w → b < 2 ^ w → ((i : ℕ) → i < w → bit a i ≡ bit b i) → a ≡ b
 ext zero a b h k e = omega arith
 ext (suc w) a b h k e =
-    let p : a / 2 ≡ b / 2 = ext w (a / 2) (b / 2) (half-lt w a h) (half-lt w b k) (λ i l. sym (bit-suc a i) ∙ e (suc i) (omega arith) ∙ bit-suc b i) in
+    let p : a / 2 ≡ b / 2 = ext w (a / 2) (b / 2) (half-lt w a h) (half-lt w b k)
+    (λ i l. sym (bit-suc a i) ∙ e (suc i) (omega arith) ∙ bit-suc b i) in
     let q : a % 2 ≡ b % 2 = odd-eq (a % 2) (b % 2) (omega arith) (omega arith) (sym (bit-zero a) ∙ e 0 (omega arith) ∙ bit-zero b) in
     omega arith
 
@@ -85,13 +86,15 @@ unfolding ofBits
 bit-ofBits zero f i l = absurd (omega arith)
 bit-ofBits (suc w) f zero l = bit-zero _ ∙ ap (λ (x : ℕ). eqb x 1) (digits-mod (ofBits w (λ i. f (suc i))) (digit (f 0))) ∙ digit-eqb (f 0)
 bit-ofBits (suc w) f (suc i) l =
-    bit-suc _ i ∙ ap (λ (x : ℕ). bit x i) (digits-div (ofBits w (λ i. f (suc i))) (digit (f 0))) ∙ bit-ofBits w (λ i. f (suc i)) i (omega arith)
+    bit-suc _ i ∙ ap (λ (x : ℕ). bit x i) (digits-div (ofBits w (λ i. f (suc i))) (digit (f 0)))
+    ∙ bit-ofBits w (λ i. f (suc i)) i (omega arith)
 
 pub ofBits-cong : (w : ℕ) (f g : ℕ → Bool) → ((i : ℕ) → i < w → f i ≡ g i) → ofBits w f ≡ ofBits w g
 unfolding ofBits
 ofBits-cong zero f g e = refl
 ofBits-cong (suc w) f g e =
-    ap₂ (λ (x y : ℕ). x * 2 + y) (ofBits-cong w (λ i. f (suc i)) (λ i. g (suc i)) (λ i l. e (suc i) (omega arith))) (ap (λ b. cond b 1 0) (e 0 (omega arith)))
+    ap₂ (λ (x y : ℕ). x * 2 + y) (ofBits-cong w (λ i. f (suc i)) (λ i. g (suc i)) (λ i l. e (suc i) (omega arith)))
+    (ap (λ b. cond b 1 0) (e 0 (omega arith)))
 
 -- ---- or and and, bit by bit
 or-low : (a b : ℕ) → bitOr a b % 2 ≡ max (a % 2) (b % 2)
@@ -131,9 +134,11 @@ pub bit-pow : (j i : ℕ) → bit (2 ^ j) i ≡ eqb i j
 unfolding bit
 bit-pow zero zero = refl
 bit-pow zero (suc i) = bit-suc 1 i ∙ bit-of-zero i ∙ sym (eqb·suc-zero i)
-bit-pow (suc j) zero = bit-zero (2 ^ suc j) ∙ ap (λ (x : ℕ). eqb x 1) (let z : 2 ^ suc j % 2 ≡ 0 = omega (arith, pow-succ' 2 j) in z) ∙ sym (eqb·zero-suc j)
+bit-pow (suc j) zero =
+    bit-zero (2 ^ suc j) ∙ ap (λ (x : ℕ). eqb x 1) (let z : 2 ^ suc j % 2 ≡ 0 = omega (arith, pow-succ' 2 j) in z) ∙ sym (eqb·zero-suc j)
 bit-pow (suc j) (suc i) =
-    bit-suc (2 ^ suc j) i ∙ ap (λ (x : ℕ). bit x i) (let z : 2 ^ suc j / 2 ≡ 2 ^ j = omega (arith, pow-succ' 2 j) in z) ∙ bit-pow j i ∙ sym (eqb·suc-suc i j)
+    bit-suc (2 ^ suc j) i ∙ ap (λ (x : ℕ). bit x i) (let z : 2 ^ suc j / 2 ≡ 2 ^ j = omega (arith, pow-succ' 2 j) in z) ∙ bit-pow j i
+    ∙ sym (eqb·suc-suc i j)
 
 flip-eqb : (a b : ℕ) → a + b ≡ 1 → eqb a 1 ≡ not (eqb b 1)
 flip-eqb zero zero e = absurd (omega arith)
@@ -164,7 +169,8 @@ pub some-bit : (w n : ℕ) → n < 2 ^ w → (n ≡ 0 → ⊥) → (i : ℕ) × 
 some-bit zero n h e = absurd (e (omega arith))
 some-bit (suc w) n h e = go (bit n 0) refl (λ k. some-bit w (n / 2) (half-lt w n h) k)
   where
-    go : (b : Bool) → bit n 0 ≡ b → ((n / 2 ≡ 0 → ⊥) → (i : ℕ) × (i < w) × (bit (n / 2) i ≡ true)) → (i : ℕ) × (i < suc w) × (bit n i ≡ true)
+    go : (b : Bool) → bit n 0 ≡ b → ((n / 2 ≡ 0 → ⊥) → (i : ℕ) × (i < w) × (bit (n / 2) i ≡ true)) → (i : ℕ) × (i < suc w)
+        × (bit n i ≡ true)
     go true t k = (0, omega arith, t)
     go false t k =
         let odd : n % 2 ≡ 0 = odd-eq (n % 2) 0 (omega arith) (omega arith) (sym (bit-zero n) ∙ t) in
@@ -198,7 +204,8 @@ back : (n j : ℕ) → bit n j ≡ true → (bit (n - 2 ^ j) j ≡ false) × (wi
 unfolding bit withBit
 back n j e =
     let o : n / 2 ^ j % 2 ≡ 1 = eqb-true (n / 2 ^ j % 2) 1 e in
-    let l : 2 ^ j ≤ n = by-cases (ltb n (2 ^ j)) (λ t. absurd (omega (arith, div-eq-of-lt (ltb-true n (2 ^ j) t)))) (λ t. ltb-false n (2 ^ j) t) in
+    let l : 2 ^ j ≤ n = by-cases (ltb n (2 ^ j)) (λ t. absurd (omega (arith, div-eq-of-lt (ltb-true n (2 ^ j) t))))
+    (λ t. ltb-false n (2 ^ j) t) in
     let d = div-eq-sub-div (pow-pos j) l in
     let z : eqb ((n - 2 ^ j) / 2 ^ j % 2) 1 ≡ false = ne-eqb ((n - 2 ^ j) / 2 ^ j % 2) 1 (λ q. omega arith) in
     (z, rw z (omega arith))
@@ -252,7 +259,8 @@ machine-with w n i l = ap (λ (x : ℕ). bitOr n x) (one-shl w i l) ∙ or-pow n
 pub machine-without : (w n i : ℕ) → n < 2 ^ w → i < w → bitAnd n (2 ^ w - 1 - 1 * 2 ^ i % 2 ^ w) ≡ withoutBit n i
 machine-without w n i h l =
     ap (λ (x : ℕ). bitAnd n (2 ^ w - 1 - x)) (one-shl w i l)
-    ∙ ext w _ _ (omega (arith, and-le-l n (2 ^ w - 1 - 2 ^ i))) (without-lt w n i h) (λ j b. bit-clear w n i j (pow-lt l) b ∙ sym (bit-without n i j))
+    ∙ ext w _ _ (omega (arith, and-le-l n (2 ^ w - 1 - 2 ^ i))) (without-lt w n i h)
+    (λ j b. bit-clear w n i j (pow-lt l) b ∙ sym (bit-without n i j))
 
 -- the bits below n of a number, then its bit n
 pub bits-more : (n : ℕ) (f : ℕ → Bool) → cond (f n) (withBit (ofBits n f) n) (ofBits n f) ≡ ofBits (n + 1) f
@@ -280,7 +288,8 @@ bits-more n f =
     go false e i l = old i l ∙ by-cases (eqb i n) (λ t. rw (t, eqb-true i n t, e)) (λ t. rw t)
 
 -- a turn of a loop that gathers them: y is x with bit i too where v holds
-pub bits-step : (x y n i : ℕ) (v : Bool) (f : ℕ → Bool) → x ≡ ofBits n f → i ≡ n → v ≡ f n → y ≡ cond v (withBit x i) x → y ≡ ofBits (n + 1) f
+pub bits-step : (x y n i : ℕ) (v : Bool) (f : ℕ → Bool) → x ≡ ofBits n f → i ≡ n → v ≡ f n → y ≡ cond v (withBit x i) x
+    → y ≡ ofBits (n + 1) f
 bits-step x y n i v f e d b q = q ∙ rw (e, d, b) (bits-more n f)
 
 -- each bit of a is one of b
@@ -292,8 +301,10 @@ pub machine-outside : (w a b : ℕ) → b < 2 ^ w → eqb (bitAnd a (2 ^ w - 1 -
 unfolding within
 machine-outside w a b k =
     iff (eqb (bitAnd a (2 ^ w - 1 - b)) 0) (allBelow w (λ i. not (bit a i) || bit b i))
-    (λ t. below-intro w _ (λ i l. covers (bit a i) (bit b i) (sym (left i l) ∙ ap (λ (x : ℕ). bit x i) (eqb-true (bitAnd a (2 ^ w - 1 - b)) 0 t) ∙ bit-of-zero i)))
-    (λ t. eq-eqb _ 0 (zero-of-bits w _ (omega (arith, and-le-r a (2 ^ w - 1 - b))) (λ i l. left i l ∙ covered (bit a i) (bit b i) (below-elim w _ t i l))))
+    (λ t. below-intro w _ (λ i l. covers (bit a i) (bit b i)
+    (sym (left i l) ∙ ap (λ (x : ℕ). bit x i) (eqb-true (bitAnd a (2 ^ w - 1 - b)) 0 t) ∙ bit-of-zero i)))
+    (λ t. eq-eqb _ 0 (zero-of-bits w _ (omega (arith, and-le-r a (2 ^ w - 1 - b)))
+    (λ i l. left i l ∙ covered (bit a i) (bit b i) (below-elim w _ t i l))))
   where
     left : (i : ℕ) → i < w → bit (bitAnd a (2 ^ w - 1 - b)) i ≡ bit a i && not (bit b i)
     left i l = bit-and a (2 ^ w - 1 - b) i ∙ ap (λ x. bit a i && x) (bit-complement w b i k l)

@@ -28,7 +28,8 @@ module _ (w : ℕ) (pos : 0 < w) where
       ∙ bit-ofBits w (λ b. f (k / w * w + b)) (k % w) (mod-lt k pos) ∙ ap f (div-add-mod' k w)
 
   -- images of equal length with equal bits are equal
-  pub ext-at : (s t : List ℕ) → length s ≡ length t → ((i : ℕ) → i < length s → getD s i 0 < 2 ^ w) → ((i : ℕ) → i < length s → getD t i 0 < 2 ^ w)
+  pub ext-at : (s t : List ℕ) → length s ≡ length t → ((i : ℕ) → i < length s → getD s i 0 < 2 ^ w)
+      → ((i : ℕ) → i < length s → getD t i 0 < 2 ^ w)
       → ((k : ℕ) → k < length s * w → at w s k ≡ at w t k) → s ≡ t
   unfolding at
   ext-at s t l hs ht e =

@@ -26,7 +26,8 @@ getD-tabulate zero f i d h = absurd (omega arith)
 getD-tabulate (suc n) f zero d h = refl
 getD-tabulate (suc n) f (suc i) d h = getD-tabulate n (λ (j : ℕ). f (suc j)) i d (le-of-suc-le-suc h)
 
-pub tabulate-ext : {A : Type 0} (n : ℕ) (f : ℕ → A) (d : A) (r : List A) → length r ≡ n → ((i : ℕ) → i < n → getD r i d ≡ f i) → r ≡ tabulate n f
+pub tabulate-ext : {A : Type 0} (n : ℕ) (f : ℕ → A) (d : A) (r : List A) → length r ≡ n → ((i : ℕ) → i < n → getD r i d ≡ f i)
+    → r ≡ tabulate n f
 tabulate-ext n f d r e h =
     ext-getD d r (tabulate n f) (e ∙ sym (length-tabulate n f))
     (λ i l. h i (subst (λ (k : ℕ). i < k) e l) ∙ sym (getD-tabulate n f i d (subst (λ (k : ℕ). i < k) e l)))
@@ -48,14 +49,6 @@ first-most f zero h = absurd (omega arith)
 first-most f (suc n) h =
     by-cases (decLt (most f n) (f n)) (λ l. rw (lt-ltb _ _ l) (omega arith, omega arith))
     (λ l. rw (le-ltb (most f n) (f n) (omega arith)) (let ih = first-most f n (omega arith) in (omega arith, omega arith)))
-
-pub first-first : (f : ℕ → ℕ) (n i : ℕ) → i < firstAt f n → f i < most f n
-unfolding most firstAt
-first-first f zero i h = absurd (omega arith)
-first-first f (suc n) i h =
-    by-cases (decLt (most f n) (f n))
-    (λ l. let k : i < n = rw (lt-ltb _ _ l) at h in let m = most-above f n i k in omega arith)
-    (λ l. let k : i < firstAt f n = rw (le-ltb (most f n) (f n) (omega arith)) at h in let m = first-first f n i k in omega arith)
 
 pub first-le : (f : ℕ → ℕ) (n : ℕ) → firstAt f (suc n) ≤ n
 unfolding firstAt
@@ -138,7 +131,8 @@ unfolding allBelow
 below-fails zero f e = absurd (false≢true (sym e))
 below-fails (suc n) f e = go (f n) refl e (λ q. below-fails n f q)
   where
-    go : (b : Bool) → f n ≡ b → b && allBelow n f ≡ false → (allBelow n f ≡ false → (k : ℕ) × (k < n) × (f k ≡ false)) → (k : ℕ) × (k < suc n) × (f k ≡ false)
+    go : (b : Bool) → f n ≡ b → b && allBelow n f ≡ false → (allBelow n f ≡ false → (k : ℕ) × (k < n) × (f k ≡ false)) → (k : ℕ)
+        × (k < suc n) × (f k ≡ false)
     go false t q r = (n, omega arith, t)
     go true t q r = let s = r q in (s .0, omega (arith, s .1), s .2)
 
@@ -162,7 +156,8 @@ below-and (suc n) f g = ap (λ x. (f n && g n) && x) (below-and n f g) ∙ and-s
 pub below-add : (n k : ℕ) (f : ℕ → Bool) → allBelow (n + k) f ≡ allBelow k (λ j. f (n + j)) && allBelow n f
 unfolding allBelow
 below-add n zero f = rw (add-zero n)
-below-add n (suc k) f = rw (add-suc n k) (ap (λ x. f (n + k) && x) (below-add n k f) ∙ sym (and-assoc (f (n + k)) (allBelow k (λ j. f (n + j))) (allBelow n f)))
+below-add n (suc k) f =
+    rw (add-suc n k) (ap (λ x. f (n + k) && x) (below-add n k f) ∙ sym (and-assoc (f (n + k)) (allBelow k (λ j. f (n + j))) (allBelow n f)))
 
 pub below-nested : (b a : ℕ) (f : ℕ → Bool) → allBelow (b * a) f ≡ allBelow a (λ i. allBelow b (λ j. f (b * i + j)))
 unfolding allBelow
@@ -180,7 +175,8 @@ pub some-intro : (n : ℕ) (f : ℕ → Bool) (k : ℕ) → k < n → f k ≡ tr
 unfolding anyBelow
 some-intro zero f k l e = absurd (omega arith)
 some-intro (suc n) f k l e =
-    ⊎-elim (λ (q : k ≡ n). or-left (f n) (anyBelow n f) (ap f (sym q) ∙ e)) (λ (b : k < n). or-right (f n) (anyBelow n f) (some-intro n f k b e)) (split l)
+    ⊎-elim (λ (q : k ≡ n). or-left (f n) (anyBelow n f) (ap f (sym q) ∙ e))
+    (λ (b : k < n). or-right (f n) (anyBelow n f) (some-intro n f k b e)) (split l)
 
 pub some-elim : (n : ℕ) (f : ℕ → Bool) → anyBelow n f ≡ true → (k : ℕ) × (k < n) × (f k ≡ true)
 unfolding anyBelow

@@ -27,7 +27,8 @@ unfolding trailingZeros
 trailing-bit zero n p h = absurd (omega arith)
 trailing-bit (suc k) n p h =
     lowest (n % 2) (trailingZeros k (n / 2)) n refl (omega arith)
-    (by-cases (eqb (n % 2) 0) (λ t. let z = eqb-true (n % 2) 0 t in inl (trailing-bit k (n / 2) (omega arith) (omega (arith, pow-succ' 2 k))))
+    (by-cases (eqb (n % 2) 0) (λ t. let z = eqb-true (n % 2) 0 t in
+    inl (trailing-bit k (n / 2) (omega arith) (omega (arith, pow-succ' 2 k))))
     (λ t. let z = eqb-false (n % 2) 0 t in inr (odd (n % 2) (omega arith) z)))
   where
     odd : (d : ℕ) → d < 2 → (d ≡ 0 → ⊥) → d ≡ 1
@@ -75,7 +76,8 @@ bit-block (suc k) a x zero h =
     rw (lt-ltb 0 (suc k) (omega arith)) (bit-zero (a * 2 ^ suc k + x) ∙ ap (λ (y : ℕ). eqb y 1) (block-odd a k x) ∙ sym (bit-zero x))
 bit-block (suc k) a x (suc i) h =
     let d : suc i - suc k ≡ i - k = omega arith in
-    let l : ltb (suc i) (suc k) ≡ ltb i k = iff _ _ (λ z. lt-ltb i k (omega (arith, ltb-true (suc i) (suc k) z))) (λ z. lt-ltb (suc i) (suc k) (omega (arith, ltb-true i k z))) in
+    let l : ltb (suc i) (suc k) ≡ ltb i k = iff _ _ (λ z. lt-ltb i k (omega (arith, ltb-true (suc i) (suc k) z)))
+    (λ z. lt-ltb (suc i) (suc k) (omega (arith, ltb-true i k z))) in
     rw (l, d, bit-suc x i)
     (bit-suc (a * 2 ^ suc k + x) i ∙ ap (λ (y : ℕ). bit y i) (block-half a k x) ∙ bit-block k a (x / 2) i (omega (arith, pow-succ' 2 k)))
 

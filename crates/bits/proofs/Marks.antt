@@ -69,7 +69,8 @@ module _ (w : ℕ) (pos : 0 < w) where
     -- bit i is the one, where its cell is c
     same-bit : (i : ℕ) → i / w ≡ c → eqb (i % w) b ≡ eqb i (c * w + b)
     same-bit i q =
-        iff (eqb (i % w) b) (eqb i (c * w + b)) (λ e. eq-eqb i (c * w + b) (sym (div-add-mod' i w) ∙ ap₂ (λ (x y : ℕ). x * w + y) q (eqb-true (i % w) b e)))
+        iff (eqb (i % w) b) (eqb i (c * w + b))
+        (λ e. eq-eqb i (c * w + b) (sym (div-add-mod' i w) ∙ ap₂ (λ (x y : ℕ). x * w + y) q (eqb-true (i % w) b e)))
         (λ e. eq-eqb (i % w) b (ap (λ (x : ℕ). x % w) (eqb-true i (c * w + b) e) ∙ digits-mod c k))
 
     other-bit : (i : ℕ) → (i / w ≡ c → ⊥) → eqb i (c * w + b) ≡ false

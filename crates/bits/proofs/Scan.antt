@@ -32,7 +32,8 @@ pub scan-more : (bad x n : ℕ) (f : ℕ → Bool) → eqb bad 0 ≡ allBelow n 
 scan-more bad x n f e d = or-zero bad x ∙ ap₂ _&&_ e d ∙ and-comm (allBelow n f) (f n) ∙ sym (below-suc n f)
 
 -- the same of a list: the whole passes where the numbers ORed so far are 0 and the rest passes
-pub scan-next : (bad x : ℕ) (whole next rest : Bool) → whole ≡ eqb bad 0 && (next && rest) → eqb x 0 ≡ next → whole ≡ eqb (bitOr bad x) 0 && rest
+pub scan-next : (bad x : ℕ) (whole next rest : Bool) → whole ≡ eqb bad 0 && (next && rest) → eqb x 0 ≡ next
+    → whole ≡ eqb (bitOr bad x) 0 && rest
 scan-next bad x whole next rest e d =
     e ∙ sym (and-assoc (eqb bad 0) next rest) ∙ ap (λ b. b && rest) (ap (λ b. eqb bad 0 && b) (sym d) ∙ sym (or-zero bad x))
 
@@ -45,7 +46,8 @@ mask-zero w x true l = ap (λ (y : ℕ). eqb y 0) (and-zero-r x) ∙ sym (or-tru
 mask-zero w x false l = ap (λ (y : ℕ). eqb y 0) (and-mask x w ∙ mod-eq-of-lt l) ∙ sym (or-false (eqb x 0))
 
 -- a cell under two such masks: nothing shows where it is 0, or both hide it
-pub mask-both : (w x : ℕ) (a b : Bool) → x < 2 ^ w → eqb (bitAnd x (bitOr (cond a 0 (2 ^ w - 1)) (cond b 0 (2 ^ w - 1)))) 0 ≡ eqb x 0 || (a && b)
+pub mask-both : (w x : ℕ) (a b : Bool) → x < 2 ^ w
+    → eqb (bitAnd x (bitOr (cond a 0 (2 ^ w - 1)) (cond b 0 (2 ^ w - 1)))) 0 ≡ eqb x 0 || (a && b)
 mask-both w x a b h = ap (λ (y : ℕ). eqb (bitAnd x y) 0) (masks a b) ∙ mask-zero w x (a && b) h
   where
     masks : (a b : Bool) → bitOr (cond a 0 (2 ^ w - 1)) (cond b 0 (2 ^ w - 1)) ≡ cond (a && b) 0 (2 ^ w - 1)
@@ -107,18 +109,21 @@ or-lt-below w (suc n) f h = or-lt w _ _ (or-lt-below w n f (λ k l. h k (omega a
 pub or-zero-below : (n : ℕ) (f : ℕ → ℕ) → eqb (orBelow n f) 0 ≡ allBelow n (λ k. eqb (f k) 0)
 unfolding orBelow allBelow
 or-zero-below zero f = refl
-or-zero-below (suc n) f = or-zero (orBelow n f) (f n) ∙ and-comm (eqb (orBelow n f) 0) (eqb (f n) 0) ∙ ap (λ x. eqb (f n) 0 && x) (or-zero-below n f)
+or-zero-below (suc n) f =
+    or-zero (orBelow n f) (f n) ∙ and-comm (eqb (orBelow n f) 0) (eqb (f n) 0) ∙ ap (λ x. eqb (f n) 0 && x) (or-zero-below n f)
 
 pub or-within-below : (w n : ℕ) (f : ℕ → ℕ) (b : ℕ) → within w (orBelow n f) b ≡ allBelow n (λ k. within w (f k) b)
 unfolding orBelow allBelow
 or-within-below w zero f b = within-none w b
 or-within-below w (suc n) f b =
-    within-or w (orBelow n f) (f n) b ∙ and-comm (within w (orBelow n f) b) (within w (f n) b) ∙ ap (λ x. within w (f n) b && x) (or-within-below w n f b)
+    within-or w (orBelow n f) (f n) b ∙ and-comm (within w (orBelow n f) b) (within w (f n) b)
+    ∙ ap (λ x. within w (f n) b && x) (or-within-below w n f b)
 
 pub or-bit-below : (n : ℕ) (f : ℕ → ℕ) (i : ℕ) → bit (orBelow n f) i ≡ anyBelow n (λ k. bit (f k) i)
 unfolding orBelow anyBelow
 or-bit-below zero f i = bit-of-zero i
-or-bit-below (suc n) f i = bit-or (orBelow n f) (f n) i ∙ or-comm (bit (orBelow n f) i) (bit (f n) i) ∙ ap (λ x. bit (f n) i || x) (or-bit-below n f i)
+or-bit-below (suc n) f i =
+    bit-or (orBelow n f) (f n) i ∙ or-comm (bit (orBelow n f) i) (bit (f n) i) ∙ ap (λ x. bit (f n) i || x) (or-bit-below n f i)
 
 -- the elements of the part from a to a + n
 pub or-part : (s : List ℕ) (a n : ℕ) → a + n ≤ length s
@@ -137,7 +142,8 @@ and-or : (a b m : ℕ) → bitAnd (bitOr a b) m ≡ bitOr (bitAnd a m) (bitAnd b
 and-or a b m =
     let fits : (x : ℕ) → bitAnd x m < 2 ^ m = λ x. omega (arith, and-le-r x m, below-own-power m) in
     ext m (bitAnd (bitOr a b) m) (bitOr (bitAnd a m) (bitAnd b m)) (fits (bitOr a b)) (or-lt m (bitAnd a m) (bitAnd b m) (fits a) (fits b))
-    (λ i l. rw (bit-and (bitOr a b) m i, bit-or a b i, bit-or (bitAnd a m) (bitAnd b m) i, bit-and a m i, bit-and b m i) (dist (bit a i) (bit b i) (bit m i)))
+    (λ i l. rw (bit-and (bitOr a b) m i, bit-or a b i, bit-or (bitAnd a m) (bitAnd b m) i, bit-and a m i, bit-and b m i)
+    (dist (bit a i) (bit b i) (bit m i)))
   where
     dist : (x y z : Bool) → (x || y) && z ≡ (x && z) || (y && z)
     dist true y true = refl
@@ -155,7 +161,8 @@ or-masked (suc n) f m =
 -- byte p of eight rows of 64 bytes, in one expression
 abbrev eight : List ℕ → ℕ → ℕ
 eight s p =
-    bitOr (bitOr (bitOr (bitOr (bitOr (bitOr (bitOr (getD s p 0) (getD s (p + 64) 0)) (getD s (p + 128) 0)) (getD s (p + 192) 0)) (getD s (p + 256) 0)) (getD s (p + 320) 0)) (getD s (p + 384) 0)) (getD s (p + 448) 0)
+    bitOr (bitOr (bitOr (bitOr (bitOr (bitOr (bitOr (getD s p 0) (getD s (p + 64) 0)) (getD s (p + 128) 0)) (getD s (p + 192) 0))
+    (getD s (p + 256) 0)) (getD s (p + 320) 0)) (getD s (p + 384) 0)) (getD s (p + 448) 0)
 
 eight-is : (s : List ℕ) (p : ℕ) → eight s p ≡ orBelow 8 (λ i. getD s (p + 64 * i) 0)
 unfolding orBelow

@@ -64,7 +64,8 @@ module _ {A : Type 0} where
   all-mono q q′ (x ∷ xs) h e = both (e x (fst (q x) (all q xs) h)) (all-mono q q′ xs (snd (q x) (all q xs) h) e)
 
   -- a weaker test passes too
-  pub any-mono : (p p′ q : A → Bool) (xs : List A) → all q xs ≡ true → ((x : A) → q x ≡ true → p x ≡ true → p′ x ≡ true) → any p xs ≡ true → any p′ xs ≡ true
+  pub any-mono : (p p′ q : A → Bool) (xs : List A) → all q xs ≡ true → ((x : A) → q x ≡ true → p x ≡ true → p′ x ≡ true) → any p xs ≡ true
+      → any p′ xs ≡ true
   unfolding any all keep add
   any-mono p p′ q [] h e t = t
   any-mono p p′ q (x ∷ xs) h e t =
@@ -88,7 +89,8 @@ module _ {A : Type 0} where
   any-keep p f [] = refl
   any-keep p f (x ∷ xs) = go (f x) (any-keep p f xs)
     where
-      go : (b : Bool) → any p (keep f xs) ≡ any (λ x. f x && p x) xs → any p (cond b (x ∷ keep f xs) (keep f xs)) ≡ (b && p x) || any (λ x. f x && p x) xs
+      go : (b : Bool) → any p (keep f xs) ≡ any (λ x. f x && p x) xs
+          → any p (cond b (x ∷ keep f xs) (keep f xs)) ≡ (b && p x) || any (λ x. f x && p x) xs
       go true e = ap (λ b. p x || b) e
       go false e = e
 
@@ -98,18 +100,21 @@ module _ {A : Type 0} where
   all-keep q f [] h = refl
   all-keep q f (x ∷ xs) h = go (f x) refl (all-keep q f xs (snd (q x) (all q xs) h))
     where
-      go : (b : Bool) → f x ≡ b → all (λ x. q x && f x) (keep f xs) ≡ true → all (λ x. q x && f x) (cond b (x ∷ keep f xs) (keep f xs)) ≡ true
+      go : (b : Bool) → f x ≡ b → all (λ x. q x && f x) (keep f xs) ≡ true
+          → all (λ x. q x && f x) (cond b (x ∷ keep f xs) (keep f xs)) ≡ true
       go true e k = both (both (fst (q x) (all q xs) h) e) k
       go false e k = k
 
-  pub any-same : (p : A → Bool) (same : A → A → Bool) → ((x y : A) → same x y ≡ true → x ≡ y) → (x : A) (xs : List A) → any (same x) xs ≡ true → p x ≡ true → any p xs ≡ true
+  pub any-same : (p : A → Bool) (same : A → A → Bool) → ((x y : A) → same x y ≡ true → x ≡ y) → (x : A) (xs : List A)
+      → any (same x) xs ≡ true → p x ≡ true → any p xs ≡ true
   unfolding any all keep add
   any-same p same law x [] h t = h
   any-same p same law x (y ∷ ys) h t =
       by-cases (same x y) (λ e. or-left (p y) (any p ys) (ap p (sym (law x y e)) ∙ t))
       (λ f. or-right (p y) (any p ys) (any-same p same law x ys (ap (λ b. b || any (same x) ys) (sym f) ∙ h) t))
 
-  pub any-add : (p : A → Bool) (same : A → A → Bool) → ((x y : A) → same x y ≡ true → x ≡ y) → (x : A) (xs : List A) → any p (add same x xs) ≡ p x || any p xs
+  pub any-add : (p : A → Bool) (same : A → A → Bool) → ((x y : A) → same x y ≡ true → x ≡ y) → (x : A) (xs : List A)
+      → any p (add same x xs) ≡ p x || any p xs
   unfolding any all keep add
   any-add p same law x xs = go (any (same x) xs) refl (p x) refl
     where
@@ -133,7 +138,8 @@ module _ {A : Type 0} where
   found p same law [] h = absurd (false≢true h)
   found p same law (x ∷ xs) h =
       by-cases (p x) (λ t. (x, t, or-left (same x x) (any (same x) xs) (law x)))
-      (λ f. let k = found p same law xs (ap (λ b. b || any p xs) (sym f) ∙ h) in (k .0, k .1, or-right (same (k .0) x) (any (same (k .0)) xs) (k .2)))
+      (λ f. let k = found p same law xs (ap (λ b. b || any p xs) (sym f) ∙ h) in
+      (k .0, k .1, or-right (same (k .0) x) (any (same (k .0)) xs) (k .2)))
 
   pub any-or : (p q : A → Bool) (xs : List A) → any (λ x. p x || q x) xs ≡ any p xs || any q xs
   unfolding any all keep add
@@ -149,7 +155,8 @@ module _ {A : Type 0} where
   -- what is kept, where the test kept by is b wherever p passes
   pub any-kept : (p f q : A → Bool) (b : Bool) (xs : List A) → all q xs ≡ true → ((x : A) → q x ≡ true → p x ≡ true → f x ≡ b)
       → any p (keep f xs) ≡ any p xs && b
-  any-kept p f q b xs h e = any-keep p f xs ∙ any-cong (λ x. f x && p x) (λ x. p x && b) q xs h (λ x k. swap (f x) (p x) (e x k)) ∙ any-and p b xs
+  any-kept p f q b xs h e =
+      any-keep p f xs ∙ any-cong (λ x. f x && p x) (λ x. p x && b) q xs h (λ x k. swap (f x) (p x) (e x k)) ∙ any-and p b xs
     where
       swap : (a c : Bool) → (c ≡ true → a ≡ b) → a && c ≡ c && b
       swap true true e = e refl
@@ -172,7 +179,8 @@ module _ {A : Type 0} where
   none [] = refl
   none (x ∷ xs) = none xs
 
-pub any-swap : {A B : Type 0} (p : A → B → Bool) (xs : List A) (ys : List B) → any (λ x. any (p x) ys) xs ≡ any (λ y. any (λ x. p x y) xs) ys
+pub any-swap : {A B : Type 0} (p : A → B → Bool) (xs : List A) (ys : List B)
+    → any (λ x. any (p x) ys) xs ≡ any (λ y. any (λ x. p x y) xs) ys
 unfolding any all keep add
 any-swap p [] ys = sym (none ys)
 any-swap p (x ∷ xs) ys = ap (λ b. any (p x) ys || b) (any-swap p xs ys) ∙ sym (any-or (p x) (λ y. any (λ x. p x y) xs) ys)

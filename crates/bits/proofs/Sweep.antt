@@ -41,15 +41,12 @@ module _ (f : ℕ → ℕ → ℕ) (old : List ℕ) where
 -- a list swept to 0
 pub swept-zero : (old m : List ℕ) → Swept (λ i w. 0) old (length old) m → (i : ℕ) → getD m i 0 ≡ 0
 swept-zero old m s i =
-    by-cases (ltb i (length old)) (λ t. s .done i (ltb-true i (length old) t)) (λ t. List·getD-eq-default m 0 (omega (arith, ltb-false i (length old) t, s .long)))
+    by-cases (ltb i (length old)) (λ t. s .done i (ltb-true i (length old) t))
+    (λ t. List·getD-eq-default m 0 (omega (arith, ltb-false i (length old) t, s .long)))
 
 -- a sweep that looks at no element makes a table
 pub swept-table : (n : ℕ) (f : ℕ → ℕ) (old m : List ℕ) → length old ≡ n → Swept (λ i x. f i) old n m → m ≡ tabulate n f
 swept-table n f old m l s = tabulate-ext n f 0 m (s .long ∙ l) (s .done)
-
--- and one that puts the elements of another list there makes that list
-pub swept-copy : (n : ℕ) (x old m : List ℕ) → length x ≡ n → length old ≡ n → Swept (λ i y. getD x i 0) old n m → m ≡ x
-swept-copy n x old m l h s = ext-getD 0 m x (s .long ∙ h ∙ sym l) (λ i b. s .done i (rw (s .long ∙ h) at b))
 
 -- new is old with n elements from place a on set to 0
 pub record Wiped (a n : ℕ) (old new : List ℕ) : Type 0 where
@@ -77,12 +74,14 @@ wiped-part a n old part h s =
       above =
           λ i b. let q : i ≡ length (take a old) + (length part + (i - a - n)) = omega arith in
           let r : a + (a + n - a + (i - a - n)) ≡ i = omega arith in
-          ap (λ (j : ℕ). getD (take a old ++ (part ++ drop (a + n - a) (drop a old))) j 0) q ∙ getD-append-add (take a old) _ _ 0 ∙ getD-append-add part _ _ 0
+          ap (λ (j : ℕ). getD (take a old ++ (part ++ drop (a + n - a) (drop a old))) j 0) q ∙ getD-append-add (take a old) _ _ 0
+          ∙ getD-append-add part _ _ 0
           ∙ getD-drop (a + n - a) (drop a old) _ 0 ∙ getD-drop a old _ 0 ∙ ap (λ (j : ℕ). getD old j 0) r;
     }
 
 -- a loop that puts v at each place
-pub swept-fill : (v : ℕ) (old : List ℕ) (k : ℕ) (m : List ℕ) → Swept (λ (i x : ℕ). v) old k m → length old ≤ k → m ≡ replicate (length old) v
+pub swept-fill : (v : ℕ) (old : List ℕ) (k : ℕ) (m : List ℕ) → Swept (λ (i x : ℕ). v) old k m → length old ≤ k
+    → m ≡ replicate (length old) v
 swept-fill v old k m s h =
     ext-getD 0 m (replicate (length old) v) (s .long ∙ sym (length-replicate (length old) v))
     (λ i l. let b : i < length old = rw (s .long) at l in s .done i (omega arith) ∙ sym (getD-replicate (length old) i v 0 b))

@@ -65,7 +65,8 @@ zeroed-one s c h =
     (record {
       long = length-set s c 0;
       cell =
-          λ k. by-cases (eqb k c) (λ t. rw (t, eqb-true k c t) (getD-set-same s c 0 0 h)) (λ t. rw t (getD-set-other s c k 0 0 (eqb-false k c t)));
+          λ k. by-cases (eqb k c) (λ t. rw (t, eqb-true k c t) (getD-set-same s c 0 0 h))
+          (λ t. rw t (getD-set-other s c k 0 0 (eqb-false k c t)));
     })
 
 -- ---- spaced cells
@@ -95,7 +96,8 @@ spaced-block a n i m h =
     let e : m ≡ i * n + f .0 = omega (arith, mul-comm n i, eqb-true (a + m) (a + n * i + 1 * f .0) (f .2)) in
     eq-eqb (m / n) i (rw e (digits-div i (f .1))))
     (λ t. let e : i * n + m % n ≡ m = rw (eqb-true (m / n) i t) at (div-add-mod' m n) in
-    some-intro n (λ j. eqb (a + m) (a + n * i + 1 * j)) (m % n) (mod-lt m h) (eq-eqb (a + m) (a + n * i + 1 * (m % n)) (omega (arith, mul-comm n i))))
+    some-intro n (λ j. eqb (a + m) (a + n * i + 1 * j)) (m % n) (mod-lt m h)
+    (eq-eqb (a + m) (a + n * i + 1 * (m % n)) (omega (arith, mul-comm n i))))
 
 -- cell i of each of n rows of w cells, past the first a
 pub spaced-column : (a w n i m : ℕ) → i < w → m < n * w → spaced (a + i) w n (a + m) ≡ eqb (m % w) i
@@ -107,4 +109,5 @@ spaced-column a w n i m h l =
     eq-eqb (m % w) i (rw e (digits-mod (f .0) h)))
     (λ t. let p : 0 < w = omega arith in
     let e : m / w * w + i ≡ m = rw (eqb-true (m % w) i t) at (div-add-mod' m w) in
-    some-intro n (λ j. eqb (a + m) (a + i + w * j)) (m / w) (div-lt-iff-lt-mul p .1 l) (eq-eqb (a + m) (a + i + w * (m / w)) (omega (arith, mul-comm w (m / w)))))
+    some-intro n (λ j. eqb (a + m) (a + i + w * j)) (m / w) (div-lt-iff-lt-mul p .1 l)
+    (eq-eqb (a + m) (a + i + w * (m / w)) (omega (arith, mul-comm w (m / w)))))

@@ -1,6 +1,6 @@
 -- What an accepted command does to the images, verb by verb: from what the parts leave to `chainAfter`.
-use mathlib.Core.Path.{_≡_, refl, sym, ap, _∙_, subst}
-use mathlib.Core.Bool.{Bool, true, false, not, _&&_, cond}
+use mathlib.Core.Path.{_≡_, sym, ap, _∙_, subst}
+use mathlib.Core.Bool.{false, not, _&&_, cond}
 use mathlib.Core.List.{List}
 use Prim.Native.Nat.{ℕ}
 use borrow.Author.Tests.{eq-eqb}
@@ -16,7 +16,7 @@ use Rattle.model.specs.Commands.{mostLoans}
 use Rattle.model.specs.Answers.{numberOf, answerFor, table, knows}
 use Rattle.model.specs.Journal.{loanIn}
 use Rattle.layouts.specs.Layouts.{grantBytes, liveIn, inOrder}
-use Rattle.delegation.specs.Loans.{wordOf, loanWords, countOf, used, loansWith, loansKept}
+use Rattle.delegation.specs.Loans.{wordOf, loanWords, countOf, used}
 use Rattle.delegation.specs.Images.{Images, images}
 use Rattle.delegation.specs.ChainUnit.{chainFacts, chainDone, chainAfter, chainUnit}
 use Rattle.bits.proofs.Sets.{snd}
@@ -27,9 +27,11 @@ use Rattle.loans.proofs.Standing.{ordered}
 use Rattle.chains.specs.Ready.{Ready, Accepted}
 
 -- what the table of answers lets through
-pub accepted : (s : Images) (a : Arguments) (f : Facts) (r : Answer) (m : ℕ) → Ready s a → f ≡ chainFacts s a → r ≡ answerFor (table f a) → m ≡ numberOf r → m ≡ 0
+pub accepted : (s : Images) (a : Arguments) (f : Facts) (r : Answer) (m : ℕ) → Ready s a → f ≡ chainFacts s a → r ≡ answerFor (table f a)
+    → m ≡ numberOf r → m ≡ 0
     → Accepted s a
-accepted s a f r m k e p q h = record { ready = k; free = sym (ap (λ g. table g a) e) ∙ sym (judged-number chainUnit s a f r p) ∙ sym q ∙ h }
+accepted s a f r m k e p q h =
+    record { ready = k; free = sym (ap (λ g. table g a) e) ∙ sym (judged-number chainUnit s a f r p) ∙ sym q ∙ h }
 
 -- row 10 of the table does not hold
 unfull : (f : Facts) (a : Arguments) → table f a ≡ 0 → knows (a .verb) 10 && f .full ≡ false

@@ -2,7 +2,7 @@
 use mathlib.Core.Path.{_≡_, refl, ap, _∙_}
 use mathlib.Core.Bool.{Bool, true, false, not, _&&_, cond}
 use mathlib.Core.List.{List, []}
-use Prim.Native.Nat.{ℕ, _+_, _*_, _≤_}
+use Prim.Native.Nat.{ℕ, _≤_}
 use native.Mathlib.Omega.{arith}
 use borrow.Author.Tests.{eq-eqb, ne-eqb, eqb-true, leb-true}
 use lib.ListN.{length, getD}
@@ -15,22 +15,23 @@ use Rattle.model.specs.declared.Arguments.{Arguments}
 use Rattle.model.specs.declared.Typed.{Typed}
 use Rattle.model.specs.declared.Answer.{Answer}
 use Rattle.model.specs.declared.Answer.the-variants as is
-use Rattle.model.specs.declared.Question.the-variants as question
-use Rattle.model.specs.declared.Within.the-variants as within
 use Rattle.bits.specs.Sets.{any}
-use Rattle.model.specs.Commands.{argumentsOf, mostLoans, Ranged, questionOf, withinOf, rawOf}
+use Rattle.model.specs.Commands.{mostLoans, Ranged, rawOf}
 use Rattle.model.specs.Answers.{numberOf}
-use Rattle.model.specs.Journal.{loan, loanIn}
+use Rattle.model.specs.Journal.{loanIn}
+use Rattle.layouts.specs.declared.admit.CommandAdmission.the-variants as command
+use Rattle.layouts.specs.declared.admit.CheckAdmission.the-variants as check
+use Rattle.layouts.specs.Admission.{commandAdmission, checkAdmission}
 use Rattle.layouts.specs.Live.{masksOf}
 use Rattle.layouts.specs.Layouts.{grantBytes, grantCells, liveIn, held, inOrder, freshImage, freshOf}
 use Rattle.delegation.specs.Loans.{wordOf, cut, loanWords, countOf, used, freshHeader, loansImage, loansInOrder}
 use Rattle.delegation.specs.Images.{Images, images}
-use Rattle.delegation.specs.ChainUnit.{chainInOrder, chainGuarded, chainFacts, chainFresh, ChainFreshens, ChainInspects}
+use Rattle.delegation.specs.ChainUnit.{chainUnit, chainInOrder, chainSized, chainGuarded, chainFacts, chainFresh, ChainFreshens, ChainInspects}
 use Rattle.bits.proofs.Sets.{fst, snd}
 use Rattle.model.proofs.Answers.{numbered}
 use Rattle.bits.proofs.Indexed.{getD-tabulate}
 use Rattle.model.proofs.Commands.{asked-ranged}
-use Rattle.layouts.proofs.Ends.{ran-ranged}
+use Rattle.layouts.proofs.Admission.{command-admitted, check-admitted}
 use Rattle.delegation.proofs.ChainEnds.{chain-readable}
 use Rattle.loans.specs.Words.{unmasked}
 use Rattle.loans.proofs.Standing.{masked, cut-none}
@@ -58,7 +59,9 @@ module _ (g t : List ℕ) (room : Bool) where
         -- the masks tell of the live items as the image does
         by-live : b ≡ loansInOrder (liveIn grantBytes g) t
         unfolding masksOf grantBytes
-        by-live = h ∙ rw (eq-eqb (length t) loanWords k) (masked (liveIn grantBytes g) m t (λ i z. ap (λ (x : List ℕ). getD x i 0) q ∙ getD-tabulate 64 _ i 0 z))
+        by-live =
+            h ∙ rw (eq-eqb (length t) loanWords k)
+            (masked (liveIn grantBytes g) m t (λ i z. ap (λ (x : List ℕ). getD x i 0) q ∙ getD-tabulate 64 _ i 0 z))
 
         pub order-lent : b ≡ false → 2 ≡ chainGuarded (images g t) room 0
         order-lent z = rw (eq-eqb (length g) grantCells l, eq-eqb (length t) loanWords k, e, o, ← by-live, z)
@@ -82,7 +85,8 @@ module _ (g t : List ℕ) where
     unfolding grantBytes
     fresh-grants-of = rw (eq-eqb (length g) grantCells l)
 
-    pub fresh-both : (x y : List ℕ) → length t ≡ loanWords → x ≡ freshOf grantBytes g → y ≡ cond (eqb (length t) loanWords) (loansImage freshHeader []) t
+    pub fresh-both : (x y : List ℕ) → length t ≡ loanWords → x ≡ freshOf grantBytes g
+        → y ≡ cond (eqb (length t) loanWords) (loansImage freshHeader []) t
         → ChainFreshens (images g t) is.Done (images x y)
     unfolding chainFresh
     fresh-both x y k p q =
@@ -102,23 +106,29 @@ pub facts-are : (s : Images) (a : Arguments) (r w : ℕ) (x y z h f : Bool) → 
 facts-are s a r w x y z h f er ew ex ey ez eh ef = rw (ex, ey, ez, eh, ef, er, ew)
 
 -- ---- past numbers 1 to 3
-pub ready : (s : Images) (c : Command) (t : Typed) → chainGuarded s true 0 ≡ 0 → withinOf (argumentsOf c) ≡ within.Typed t → Ready s (rawOf t)
-ready s c t g e =
-    let p = chain-readable s true g in
-    record { grants = p .0; loans = p .1; ordered = p .3; ranged = ran-ranged c t e }
+pub ready : (s : Images) (c : Command) (order : Answer) → numberOf order ≡ chainGuarded s true 0 → (t : Typed)
+    → command.Ready t ≡ commandAdmission order c
+    → Ready s (rawOf t)
+ready s c order e t h =
+    let m = command-admitted chainUnit s c order e (command.Ready t) h in
+    let p = chain-readable s true (m .0) in
+    record { grants = p .0; loans = p .1; ordered = p .3; ranged = m .1 }
 
 -- ---- a check
 -- images in order hold at most 1,024 loans
 pub counted : (s : Images) → chainInOrder s ≡ true → countOf (s .loans) ≤ mostLoans
 unfolding loansInOrder
-counted s e = leb-true _ _ (let k = snd (inOrder grantBytes (s .grants)) (loansInOrder (liveIn grantBytes (s .grants)) (s .loans)) e in search (fst, snd))
+counted s e =
+    leb-true _ _ (let k = snd (inOrder grantBytes (s .grants)) (loansInOrder (liveIn grantBytes (s .grants)) (s .loans)) e in
+    search (fst, snd))
 
-pub in-shape : (s : Images) (buffer : List ℕ) (p o r : ℕ) (x y : Item) (z : Right) → questionOf p o r ≡ question.Asked x y z
-    → chainGuarded s (eqb (length buffer) 8) 0 ≡ 0 → InShape (s .grants) (s .loans) (x .0) (y .0) (z .0) (length buffer)
-in-shape s buffer p o r x y z e g =
-    let q = chain-readable s (eqb (length buffer) 8) g in
-    let i = asked-ranged p o r x y z e in
-    let b = eqb-true _ _ (q .2) in
+pub in-shape : (s : Images) (buffer : List ℕ) (p o r : ℕ) (order : Answer) → numberOf order ≡ chainGuarded s (eqb (length buffer) 8) 0
+    → (x y : Item) (z : Right) → check.Ready x y z ≡ checkAdmission order p o r
+    → InShape (s .grants) (s .loans) (x .0) (y .0) (z .0) (length buffer)
+in-shape s buffer p o r order e x y z h =
+    let m = check-admitted (chainSized s (eqb (length buffer) 8)) (chainInOrder s) p o r order e (check.Ready x y z) h in
+    let q = chain-readable s (eqb (length buffer) 8) (m .0) in
+    let i = asked-ranged p o r x y z (m .2) in
     record {
       grants = q .0;
       loans = q .1;
@@ -126,5 +136,5 @@ in-shape s buffer p o r x y z e g =
       person = omega arith;
       item = omega arith;
       rights = omega arith;
-      buffer = b;
+      buffer = eqb-true _ _ (q .2);
     }

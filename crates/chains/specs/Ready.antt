@@ -11,6 +11,7 @@ use Rattle.delegation.specs.Loans.{loanWords, wordNames, loansKept}
 use Rattle.delegation.specs.Images.{Images}
 use Rattle.delegation.specs.ChainUnit.{chainInOrder, chainFacts}
 
+-- both images have their lengths and are in order, and every argument is within its limit
 pub record Ready (s : Images) (a : Arguments) : Type 0 where
   pub grants : length (s .grants) ≡ grantCells
   pub loans : length (s .loans) ≡ loanWords

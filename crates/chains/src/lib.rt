@@ -2,6 +2,9 @@
 // check that follows loans through anyone with depth left.
 use delegation::loan;
 use grants::Grants;
+use layouts::admit;
+use layouts::admit::CheckAdmission;
+use layouts::admit::CommandAdmission;
 use layouts::live;
 use loans::Loans;
 use loans::Rule;
@@ -10,11 +13,9 @@ use model::ChainChecked;
 use model::Command;
 use model::Facts;
 use model::Item;
-use model::Question;
 use model::Right;
 use model::Typed;
 use model::Verb;
-use model::Within;
 use model::judge;
 ghost use mathlib.Core.Path.{_≡_};
 ghost use mathlib.Core.Bool.{true, not};
@@ -38,7 +39,8 @@ const PERSONS: usize = 8;
 // Number 1 alone: whatever the buffers held is overwritten. The small state that is written is that of `Grants::fresh` and
 // `Loans::fresh`.
 pub fn fresh(grants: &mut [u8], loans: &mut [u32]) -> Answer
-    ensures { λ r. ⌜ ChainFreshens (images (now (grants .entry)) (now (loans .entry))) r (images (now (grants .exit)) (now (loans .exit))) ⌝ }
+    ensures { λ r. ⌜ ChainFreshens (images (now (grants .entry)) (now (loans .entry))) r
+        (images (now (grants .exit)) (now (loans .exit))) ⌝ }
 {
     if grants.len() != Grants::BYTES {
         return Answer::WrongLength;
@@ -109,7 +111,8 @@ fn facts(grants: &[u8], loans: &[u32], t: Typed) -> Facts
 // The item's grants and name, then the loans that name it.
 fn drop_item(grants: &mut [u8], loans: &mut [u32], on: Item)
     requires { ⌜ (length (now grants) ≡ grantCells) × (length (now loans) ≡ loanWords) × (on .0 < 64) ⌝ }
-    ensures { λ _. ⌜ images (now (grants .exit)) (now (loans .exit)) ≡ withoutItem (images (now (grants .entry)) (now (loans .entry))) (on .0) ⌝ }
+    ensures { λ _. ⌜ images (now (grants .exit)) (now (loans .exit)) ≡ withoutItem (images (now (grants .entry)) (now (loans .entry)))
+        (on .0) ⌝ }
 {
     grants::drop_item(grants, on);
     loans::retain(loans, Rule::Without(on));
@@ -126,7 +129,8 @@ fn drop_loan(loans: &mut [u32], w: u32)
 // What an accepted command does.
 fn apply(grants: &mut [u8], loans: &mut [u32], t: Typed)
     requires { ⌜ Accepted (images (now grants) (now loans)) (rawOf t) ⌝ }
-    ensures { λ _. ⌜ images (now (grants .exit)) (now (loans .exit)) ≡ chainAfter (images (now (grants .entry)) (now (loans .entry))) (rawOf t) ⌝ }
+    ensures { λ _. ⌜ images (now (grants .exit)) (now (loans .exit)) ≡ chainAfter (images (now (grants .entry)) (now (loans .entry)))
+        (rawOf t) ⌝ }
 {
     let verb = t.verb;
     match verb {
@@ -142,7 +146,8 @@ fn apply(grants: &mut [u8], loans: &mut [u32], t: Typed)
 // Numbers 4 to 10, and what follows.
 fn settle(grants: &mut [u8], loans: &mut [u32], t: Typed) -> Answer
     requires { ⌜ Ready (images (now grants) (now loans)) (rawOf t) ⌝ }
-    ensures { λ r. ⌜ Judged chainUnit (images (now (grants .entry)) (now (loans .entry))) (rawOf t) (numberOf r) (images (now (grants .exit)) (now (loans .exit))) ⌝ }
+    ensures { λ r. ⌜ Judged chainUnit (images (now (grants .entry)) (now (loans .entry))) (rawOf t) (numberOf r)
+        (images (now (grants .exit)) (now (loans .exit))) ⌝ }
 {
     let f = facts(grants, loans, t);
     let a = judge(t, f);
@@ -156,27 +161,26 @@ fn settle(grants: &mut [u8], loans: &mut [u32], t: Typed) -> Answer
 
 // Any command, from the numbers that arrived; a chain unit has them all.
 pub fn offer(grants: &mut [u8], loans: &mut [u32], c: Command) -> Answer
-    ensures { λ r. ⌜ Ran chainUnit (images (now (grants .entry)) (now (loans .entry))) c r (images (now (grants .exit)) (now (loans .exit))) ⌝ }
+    ensures { λ r. ⌜ Ran chainUnit (images (now (grants .entry)) (now (loans .entry))) c r
+        (images (now (grants .exit)) (now (loans .exit))) ⌝ }
 {
-    let a = order(grants, loans, true);
-    if a.number() != 0 {
-        return a;
-    }
-    let w = c.within();
-    match w {
-        Within::Beyond => Answer::OutOfRange,
-        Within::Typed(t) => settle(grants, loans, t),
+    let a = admit::command(order(grants, loans, true), c);
+    match a {
+        CommandAdmission::Refused(r) => r,
+        CommandAdmission::Ready(t) => settle(grants, loans, t),
     }
 }
 
 pub fn create(grants: &mut [u8], loans: &mut [u32], by: u32, on: u32) -> Answer
-    ensures { λ r. ⌜ Ran chainUnit (images (now (grants .entry)) (now (loans .entry))) (Create by on) r (images (now (grants .exit)) (now (loans .exit))) ⌝ }
+    ensures { λ r. ⌜ Ran chainUnit (images (now (grants .entry)) (now (loans .entry))) (Create by on) r
+        (images (now (grants .exit)) (now (loans .exit))) ⌝ }
 {
     offer(grants, loans, Command::Create { by, on })
 }
 
 pub fn delete(grants: &mut [u8], loans: &mut [u32], by: u32, on: u32) -> Answer
-    ensures { λ r. ⌜ Ran chainUnit (images (now (grants .entry)) (now (loans .entry))) (Delete by on) r (images (now (grants .exit)) (now (loans .exit))) ⌝ }
+    ensures { λ r. ⌜ Ran chainUnit (images (now (grants .entry)) (now (loans .entry))) (Delete by on) r
+        (images (now (grants .exit)) (now (loans .exit))) ⌝ }
 {
     offer(grants, loans, Command::Delete { by, on })
 }
@@ -190,7 +194,8 @@ pub fn allow(
     right: u32,
     depth: u32,
 ) -> Answer
-    ensures { λ r. ⌜ Ran chainUnit (images (now (grants .entry)) (now (loans .entry))) (Allow by to on right depth) r (images (now (grants .exit)) (now (loans .exit))) ⌝ }
+    ensures { λ r. ⌜ Ran chainUnit (images (now (grants .entry)) (now (loans .entry))) (Allow by to on right depth) r
+        (images (now (grants .exit)) (now (loans .exit))) ⌝ }
 {
     offer(
         grants,
@@ -213,7 +218,8 @@ pub fn withdraw(
     on: u32,
     right: u32,
 ) -> Answer
-    ensures { λ r. ⌜ Ran chainUnit (images (now (grants .entry)) (now (loans .entry))) (Withdraw by to on right) r (images (now (grants .exit)) (now (loans .exit))) ⌝ }
+    ensures { λ r. ⌜ Ran chainUnit (images (now (grants .entry)) (now (loans .entry))) (Withdraw by to on right) r
+        (images (now (grants .exit)) (now (loans .exit))) ⌝ }
 {
     offer(grants, loans, Command::Withdraw { by, to, on, right })
 }
@@ -227,7 +233,8 @@ pub fn lend(
     right: u32,
     depth: u32,
 ) -> Answer
-    ensures { λ r. ⌜ Ran chainUnit (images (now (grants .entry)) (now (loans .entry))) (Lend by to on right depth) r (images (now (grants .exit)) (now (loans .exit))) ⌝ }
+    ensures { λ r. ⌜ Ran chainUnit (images (now (grants .entry)) (now (loans .entry))) (Lend by to on right depth) r
+        (images (now (grants .exit)) (now (loans .exit))) ⌝ }
 {
     offer(
         grants,
@@ -251,7 +258,8 @@ pub fn recall(
     right: u32,
     depth: u32,
 ) -> Answer
-    ensures { λ r. ⌜ Ran chainUnit (images (now (grants .entry)) (now (loans .entry))) (Recall by to on right depth) r (images (now (grants .exit)) (now (loans .exit))) ⌝ }
+    ensures { λ r. ⌜ Ran chainUnit (images (now (grants .entry)) (now (loans .entry))) (Recall by to on right depth) r
+        (images (now (grants .exit)) (now (loans .exit))) ⌝ }
 {
     offer(
         grants,
@@ -276,16 +284,13 @@ pub fn check(
     right: u32,
     chain: &mut [u8],
 ) -> ChainChecked
-    ensures { λ r. ⌜ ChainChecks (images (now (grants .entry)) (now (loans .entry))) (now (chain .entry)) who on right r (now (chain .exit)) (images (now (grants .exit)) (now (loans .exit))) ⌝ }
+    ensures { λ r. ⌜ ChainChecks (images (now (grants .entry)) (now (loans .entry))) (now (chain .entry)) who on right r
+        (now (chain .exit)) (images (now (grants .exit)) (now (loans .exit))) ⌝ }
 {
-    let a = order(grants, loans, chain.len() == PERSONS);
-    if a.number() != 0 {
-        return ChainChecked::Refused(a);
-    }
-    let q = Question::read(who, on, right);
-    match q {
-        Question::Beyond => ChainChecked::Refused(Answer::OutOfRange),
-        Question::Asked {
+    let a = admit::check(order(grants, loans, chain.len() == PERSONS), who, on, right);
+    match a {
+        CheckAdmission::Refused(r) => ChainChecked::Refused(r),
+        CheckAdmission::Ready {
             who: p,
             on: i,
             right: r,
@@ -295,7 +300,8 @@ pub fn check(
 
 // Numbers 1 and 2 alone, for a caller that reads the images itself.
 pub fn inspect(grants: &[u8], loans: &[u32]) -> Answer
-    ensures { λ r. ⌜ ChainInspects (images (now (grants .entry)) (now (loans .entry))) r (images (now (grants .exit)) (now (loans .exit))) ⌝ }
+    ensures { λ r. ⌜ ChainInspects (images (now (grants .entry)) (now (loans .entry))) r
+        (images (now (grants .exit)) (now (loans .exit))) ⌝ }
 {
     order(grants, loans, true)
 }

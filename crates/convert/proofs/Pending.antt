@@ -40,11 +40,13 @@ module _ (w n : ℕ) (pos : 0 < w) (s : List ℕ) where
   unfolding lacking
   at-lacking f j h = at-image w pos n _ j h
 
-  pub lacking-is : (f : ℕ → Bool) (m : List ℕ) → length m ≡ n → Cells w m → ((j : ℕ) → j < n * w → at w m j ≡ at w s j && not (f j)) → m ≡ lacking w n f s
+  pub lacking-is : (f : ℕ → Bool) (m : List ℕ) → length m ≡ n → Cells w m → ((j : ℕ) → j < n * w → at w m j ≡ at w s j && not (f j))
+      → m ≡ lacking w n f s
   unfolding lacking
   lacking-is f m l h e = image-is w pos m n _ l h e
 
-  lacking-cong : (f g : ℕ → Bool) → ((j : ℕ) → j < n * w → at w s j && not (f j) ≡ at w s j && not (g j)) → lacking w n f s ≡ lacking w n g s
+  lacking-cong : (f g : ℕ → Bool) → ((j : ℕ) → j < n * w → at w s j && not (f j) ≡ at w s j && not (g j))
+      → lacking w n f s ≡ lacking w n g s
   unfolding lacking
   lacking-cong f g e = image-cong w pos n _ _ e
 
@@ -73,7 +75,8 @@ module _ (w n : ℕ) (pos : 0 < w) (s : List ℕ) where
         not-same a b q y = by-cases (ltb a b) (λ z. ltb-true a b z) (λ z. absurd (q (omega (arith, ltb-false a b z))))
 
         inside : (j : ℕ) → j < n * w → 64 ≤ j
-            → at w s j && not (leb t (block (j - 64))) ≡ at w s j && not (ltb t (block (j - 64)) || (eqb t (block (j - 64)) && bit rest (place (j - 64))))
+            → at w s j && not (leb t (block (j - 64))) ≡ at w s j && not
+            (ltb t (block (j - 64)) || (eqb t (block (j - 64)) && bit rest (place (j - 64))))
         inside j b u =
             by-cases (eqb t (block (j - 64)))
             (λ e. let q : t ≡ block (j - 64) = eqb-true t (block (j - 64)) e in
@@ -85,7 +88,8 @@ module _ (w n : ℕ) (pos : 0 < w) (s : List ℕ) where
             (λ e. let q = eqb-false t (block (j - 64)) e in
             rw (e, or-false (ltb t (block (j - 64))))
             (ap (λ x. at w s j && not x)
-            (iff (leb t (block (j - 64))) (ltb t (block (j - 64))) (λ z. lt-ltb t _ (let y = leb-true t (block (j - 64)) z in not-same t (block (j - 64)) q y))
+            (iff (leb t (block (j - 64))) (ltb t (block (j - 64)))
+            (λ z. lt-ltb t _ (let y = leb-true t (block (j - 64)) z in not-same t (block (j - 64)) q y))
             (λ z. le-leb t _ (omega (arith, ltb-true t (block (j - 64)) z))))))
 
     -- and ends with none
@@ -95,7 +99,8 @@ module _ (w n : ℕ) (pos : 0 < w) (s : List ℕ) where
         lacking-cong _ _
         (λ j b. ap (λ x. at w s j && not (leb 64 j && x))
         (rw (bit-of-zero (place (j - 64)), and-false (eqb t (block (j - 64))), or-false (ltb t (block (j - 64))))
-        (iff _ _ (λ z. le-leb (t + 1) _ (omega (arith, ltb-true t (block (j - 64)) z))) (λ z. lt-ltb t _ (omega (arith, leb-true (t + 1) (block (j - 64)) z))))))
+        (iff _ _ (λ z. le-leb (t + 1) _ (omega (arith, ltb-true t (block (j - 64)) z)))
+        (λ z. lt-ltb t _ (omega (arith, leb-true (t + 1) (block (j - 64)) z))))))
 
     -- the bits of one place are put in
     pub put-place : (t rest b : ℕ) (m x : List ℕ) → m ≡ lacking w n (pending block place t rest) s → length x ≡ n → Cells w x
@@ -112,10 +117,12 @@ module _ (w n : ℕ) (pos : 0 < w) (s : List ℕ) where
         value v true true true r l h = rw (h refl, and-false r) (sym (and-true v))
         value v true true false r l h = rw (and-true r)
 
-        each : (j : ℕ) → cond (placed block place t b j) (at w s j) (at w s j && not (pending block place t rest j)) ≡ at w s j && not (pending block place t (withoutBit rest b) j)
+        each : (j : ℕ) → cond (placed block place t b j) (at w s j) (at w s j && not (pending block place t rest j)) ≡ at w s j && not
+            (pending block place t (withoutBit rest b) j)
         each j =
             rw (bit-without rest b (place (j - 64)))
-            (value (at w s j) (leb 64 j) (eqb t (block (j - 64))) (eqb (place (j - 64)) b) (bit rest (place (j - 64))) (ltb t (block (j - 64)))
+            (value (at w s j) (leb 64 j) (eqb t (block (j - 64))) (eqb (place (j - 64)) b) (bit rest (place (j - 64)))
+            (ltb t (block (j - 64)))
             (λ z. le-ltb t (block (j - 64)) (omega (arith, eqb-true t (block (j - 64)) z))))
 
     -- after the last block
@@ -123,11 +130,13 @@ module _ (w n : ℕ) (pos : 0 < w) (s : List ℕ) where
     unfolding ahead
     end-blocks t l h e =
         lacking-none _ l h
-        (λ j b. by-cases (leb 64 j) (λ u. let v = leb-true 64 j u in rw (u, lt-leb t (block (j - 64)) (e (j - 64) (omega arith)))) (λ u. rw u))
+        (λ j b. by-cases (leb 64 j) (λ u. let v = leb-true 64 j u in rw (u, lt-leb t (block (j - 64)) (e (j - 64) (omega arith))))
+        (λ u. rw u))
 
 -- ---- by cells
 -- a cell put in whole
-pub at-put : (w : ℕ) (m s : List ℕ) (c v j : ℕ) → c < length m → v ≡ getD s c 0 → at w (set m c v) j ≡ cond (eqb (j / w) c) (at w s j) (at w m j)
+pub at-put : (w : ℕ) (m s : List ℕ) (c v j : ℕ) → c < length m → v ≡ getD s c 0
+    → at w (set m c v) j ≡ cond (eqb (j / w) c) (at w s j) (at w m j)
 unfolding at
 at-put w m s c v j h e =
     by-cases (eqb (j / w) c) (λ t. rw (t, eqb-true (j / w) c t, getD-set-same m c v 0 h, e))

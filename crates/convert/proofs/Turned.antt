@@ -30,7 +30,8 @@ none-below n f k h l = by-cases (f k) (λ t. absurd (false≢true (sym h ∙ som
 
 -- ---- lists to rows: the bit of a right in lists
 in-list : (p on b : ℕ) → p < 64 → on < 64 → b < 8
-    → 64 + ((8 * ((8 * (64 * p + on) + b) / 8 % 64) + (8 * (64 * p + on) + b) % 8) * 64 + (8 * (64 * p + on) + b) / 512) ≡ (1 + 8 * on + b) * 64 + p % 64
+    → 64 + ((8 * ((8 * (64 * p + on) + b) / 8 % 64) + (8 * (64 * p + on) + b) % 8) * 64 + (8 * (64 * p + on) + b) / 512)
+    ≡ (1 + 8 * on + b) * 64 + p % 64
 in-list p on b h k l =
     let o : (8 * (64 * p + on) + b) / 8 % 64 ≡ on = omega arith in
     let r : (8 * (64 * p + on) + b) % 8 ≡ b = omega arith in
@@ -57,7 +58,8 @@ module _ (s : List ℕ) where
       convert-live lists rows lists-flat rows-flat s (k * 8 + b) (le-leb (k * 8 + b) 63 (omega arith))
       ∙ cell-bit 64 (omega arith) s 0 ((8 * k + b) % 64) (omega arith) (k * 8 + b) (omega arith)
 
-  row-grant : (p on b : ℕ) → p < 64 → on < 64 → b < 8 → at 8 (convert lists rows s) ((8 + 64 * p + on) * 8 + b) ≡ bit (getD s (1 + 8 * on + b) 0) (p % 64)
+  row-grant : (p on b : ℕ) → p < 64 → on < 64 → b < 8
+      → at 8 (convert lists rows s) ((8 + 64 * p + on) * 8 + b) ≡ bit (getD s (1 + 8 * on + b) 0) (p % 64)
   unfolding lists rows
   row-grant p on b h k l =
       ap (at 8 (convert lists rows s)) (let e : (8 + 64 * p + on) * 8 + b ≡ 64 + (8 * (64 * p + on) + b) = omega arith in e)
@@ -71,16 +73,19 @@ module _ (s : List ℕ) where
       let z : 8 + 8 * on - b ≡ 1 + 8 * on + (8 - b - 1) = omega arith in
       q ∙ rw (e, z, row-grant p on (8 - b - 1) h k (omega arith))
 
-  pub rows-begin : (m : List ℕ) → length m ≡ 4104 → ((i : ℕ) → i < 8 → getD m i 0 ≡ getD (convert lists rows s) i 0) → ((i : ℕ) → 8 ≤ i → getD m i 0 ≡ 0)
+  pub rows-begin : (m : List ℕ) → length m ≡ 4104 → ((i : ℕ) → i < 8 → getD m i 0 ≡ getD (convert lists rows s) i 0)
+      → ((i : ℕ) → 8 ≤ i → getD m i 0 ≡ 0)
       → m ≡ lacking 8 4104 (ahead (rows .item) 0) (convert lists rows s)
   unfolding rows
   rows-begin m l a b =
-      begin-cells 8 4104 8 (omega arith) (convert lists rows s) m (rows .item) (rows .person) refl (convert-length lists rows lists-flat rows-flat s)
+      begin-cells 8 4104 8 (omega arith) (convert lists rows s) m (rows .item) (rows .person) refl
+      (convert-length lists rows lists-flat rows-flat s)
       (convert-cells lists rows lists-flat rows-flat s) l a b
 
   -- persons of no list of the item have no right on it
   pub rows-open : (on rest : ℕ) → on < 64 → rest ≡ orBelow 8 (λ i. getD s (1 + 8 * on + i) 0)
-      → lacking 8 4104 (ahead (rows .item) on) (convert lists rows s) ≡ lacking 8 4104 (pending (rows .item) (rows .person) on rest) (convert lists rows s)
+      → lacking 8 4104 (ahead (rows .item) on) (convert lists rows s) ≡ lacking 8 4104 (pending (rows .item) (rows .person) on rest)
+      (convert lists rows s)
   unfolding rows
   rows-open on rest h e =
       open-block 8 4104 (omega arith) (convert lists rows s) (rows .item) (rows .person) on rest
@@ -104,17 +109,20 @@ module _ (s : List ℕ) where
       let n : length t ≡ 4104 = convert-length lists rows lists-flat rows-flat s in
       rw z
       (put-place 8 4104 (omega arith) t (rows .item) (rows .person) on rest p m (set m c v) e (length-set m c v ∙ l)
-      (cells-set 8 (omega arith) m c v (rw e (lacking-cells 8 4104 (omega arith) t _)) (rw q (convert-cells lists rows lists-flat rows-flat s c (omega arith))))
+      (cells-set 8 (omega arith) m c v (rw e (lacking-cells 8 4104 (omega arith) t _))
+      (rw q (convert-cells lists rows lists-flat rows-flat s c (omega arith))))
       (λ j b. at-put 8 m t c v j (omega arith) q ∙ ap (λ y. cond y (at 8 t j) (at 8 m j)) (column-bit on p j h k)))
 
   pub rows-close : (on rest : ℕ) → rest ≡ 0
-      → lacking 8 4104 (pending (rows .item) (rows .person) on rest) (convert lists rows s) ≡ lacking 8 4104 (ahead (rows .item) (on + 1)) (convert lists rows s)
+      → lacking 8 4104 (pending (rows .item) (rows .person) on rest) (convert lists rows s) ≡ lacking 8 4104 (ahead (rows .item) (on + 1))
+      (convert lists rows s)
   rows-close on rest e = rw e (close-block 8 4104 (omega arith) (convert lists rows s) (rows .item) (rows .person) on)
 
   pub rows-end : lacking 8 4104 (ahead (rows .item) 64) (convert lists rows s) ≡ convert lists rows s
   unfolding rows
   rows-end =
-      end-blocks 8 4104 (omega arith) (convert lists rows s) (rows .item) (rows .person) 64 (convert-length lists rows lists-flat rows-flat s)
+      end-blocks 8 4104 (omega arith) (convert lists rows s) (rows .item) (rows .person) 64
+      (convert-length lists rows lists-flat rows-flat s)
       (convert-cells lists rows lists-flat rows-flat s) (λ k l. omega arith)
 
 -- ---- eight bytes as a word
@@ -123,22 +131,27 @@ half-full b x f l e = let m : 2 ^ b ≤ 2 ^ 7 = pow-mono (let z : b ≤ 7 = omeg
 
 module _ (s : List ℕ) (first n bits x : ℕ) (l : n < 8) (e : bits ≡ ofBits (8 * n) (λ i. at 8 s (8 * (first + 8 - n) + i))) where
   pub eight-room : bits < 72057594037927936
-  eight-room = let m : 2 ^ (8 * n) ≤ 2 ^ 56 = pow-mono (let z : 8 * n ≤ 56 = omega arith in z) in omega (arith, ofBits-lt (8 * n) (λ i. at 8 s (8 * (first + 8 - n) + i)))
+  eight-room =
+      let m : 2 ^ (8 * n) ≤ 2 ^ 56 = pow-mono (let z : 8 * n ≤ 56 = omega arith in z) in
+      omega (arith, ofBits-lt (8 * n) (λ i. at 8 s (8 * (first + 8 - n) + i)))
 
-  pub eight-more : x < 256 → x ≡ getD s (first + 7 - n) 0 → bits * 256 + x ≡ ofBits (8 * (n + 1)) (λ i. at 8 s (8 * (first + 8 - (n + 1)) + i))
+  pub eight-more : x < 256 → x ≡ getD s (first + 7 - n) 0
+      → bits * 256 + x ≡ ofBits (8 * (n + 1)) (λ i. at 8 s (8 * (first + 8 - (n + 1)) + i))
   eight-more h q =
       ext (8 * (n + 1)) (bits * 256 + x) _ small (ofBits-lt (8 * (n + 1)) _)
       (λ i b. bit-block 8 bits x i h ∙ each i b ∙ sym (bit-ofBits (8 * (n + 1)) (λ i. at 8 s (8 * (first + 8 - (n + 1)) + i)) i b))
     where
       small : bits * 256 + x < 2 ^ (8 * (n + 1))
       small =
-          let p : 2 ^ (8 * (n + 1)) ≡ 2 ^ (8 * n) * 2 ^ 8 = ap (λ (k : ℕ). 2 ^ k) (let z : 8 * (n + 1) ≡ 8 * n + 8 = omega arith in z) ∙ pow-add 2 (8 * n) 8 in
+          let p : 2 ^ (8 * (n + 1)) ≡ 2 ^ (8 * n) * 2 ^ 8 = ap (λ (k : ℕ). 2 ^ k) (let z : 8 * (n + 1) ≡ 8 * n + 8 = omega arith in z)
+          ∙ pow-add 2 (8 * n) 8 in
           omega (arith, ofBits-lt (8 * n) (λ i. at 8 s (8 * (first + 8 - n) + i)))
 
       each : (i : ℕ) → i < 8 * (n + 1) → cond (ltb i 8) (bit x i) (bit bits (i - 8)) ≡ at 8 s (8 * (first + 8 - (n + 1)) + i)
       each i b =
           by-cases (ltb i 8)
-          (λ t. let u = ltb-true i 8 t in rw (t, q) (sym (cell-bit 8 (omega arith) s (first + 7 - n) i u (8 * (first + 8 - (n + 1)) + i) (omega arith))))
+          (λ t. let u = ltb-true i 8 t in
+          rw (t, q) (sym (cell-bit 8 (omega arith) s (first + 7 - n) i u (8 * (first + 8 - (n + 1)) + i) (omega arith))))
           (λ t. let u = ltb-false i 8 t in
           rw (t, e) (bit-ofBits (8 * n) (λ i. at 8 s (8 * (first + 8 - n) + i)) (i - 8) (omega arith)
           ∙ ap (at 8 s) (let z : 8 * (first + 8 - n) + (i - 8) ≡ 8 * (first + 8 - (n + 1)) + i = omega arith in z)))
@@ -169,7 +182,8 @@ eighth-is k = let e : k / 512 ≡ k / 64 / 8 = omega arith in rw e (within (k / 
 eights-is : (k : ℕ) → k / 512 / 8 ≡ k / 64 / 64
 eights-is k = omega arith
 
-spot : (t b k : ℕ) → k < 32768 → 8 * (k % 64) + k / 512 / 8 ≡ t → 8 * (k / 512 % 8) + k / 64 % 8 ≡ b → 64 + k ≡ (1 + 64 * (t % 8) + b) * 64 + t / 8
+spot : (t b k : ℕ) → k < 32768 → 8 * (k % 64) + k / 512 / 8 ≡ t → 8 * (k / 512 % 8) + k / 64 % 8 ≡ b
+    → 64 + k ≡ (1 + 64 * (t % 8) + b) * 64 + t / 8
 spot t b k l e d = joined (k / 64) (k % 64) (omega arith) (omega arith) (rw (eights-is k) at e) (rw (eighth-is k) at d) (omega arith)
   where
     joined : (q p : ℕ) → q < 512 → p < 64 → 8 * p + q / 64 ≡ t → q % 64 ≡ b → k ≡ 64 * q + p → 64 + k ≡ (1 + 64 * (t % 8) + b) * 64 + t / 8
@@ -192,7 +206,8 @@ eight-bit t b j h k l =
     iff _ _
     (λ z. let e = eqb-true j ((1 + 64 * (t % 8) + b) * 64 + t / 8) z in
     let r = back t b (j - 64) h k (omega arith) in
-    both (le-leb 64 j (omega arith)) (both (eq-eqb t (8 * ((j - 64) % 64) + (j - 64) / 512 / 8) (r .0)) (eq-eqb (8 * ((j - 64) / 512 % 8) + (j - 64) / 64 % 8) b (r .1))))
+    both (le-leb 64 j (omega arith))
+    (both (eq-eqb t (8 * ((j - 64) % 64) + (j - 64) / 512 / 8) (r .0)) (eq-eqb (8 * ((j - 64) / 512 % 8) + (j - 64) / 64 % 8) b (r .1))))
     (λ z. let u = leb-true 64 j (fst (leb 64 j) _ z) in
     let v = snd (leb 64 j) _ z in
     let x = eqb-true t (8 * ((j - 64) % 64) + (j - 64) / 512 / 8) (fst _ (eqb (8 * ((j - 64) / 512 % 8) + (j - 64) / 64 % 8) b) v) in
@@ -202,12 +217,15 @@ eight-bit t b j h k l =
 
 module _ (s : List ℕ) where
   -- bit i of eight bytes of a row
-  list-grant : (t i : ℕ) → t < 512 → i < 64 → at 64 (convert rows lists s) ((1 + 64 * (t % 8) + i) * 64 + t / 8) ≡ at 8 s (8 * (8 + 8 * t) + i)
+  list-grant : (t i : ℕ) → t < 512 → i < 64
+      → at 64 (convert rows lists s) ((1 + 64 * (t % 8) + i) * 64 + t / 8) ≡ at 8 s (8 * (8 + 8 * t) + i)
   unfolding lists rows
   list-grant t i h l =
-      ap (at 64 (convert rows lists s)) (let e : (1 + 64 * (t % 8) + i) * 64 + t / 8 ≡ 64 + (64 * (64 * (t % 8) + i) + t / 8) = omega arith in e)
+      ap (at 64 (convert rows lists s))
+      (let e : (1 + 64 * (t % 8) + i) * 64 + t / 8 ≡ 64 + (64 * (64 * (t % 8) + i) + t / 8) = omega arith in e)
       ∙ convert-bit rows lists rows-flat lists-flat s (64 * (64 * (t % 8) + i) + t / 8) (omega arith)
-      ∙ ap (at 8 s) (in-row (64 * (t % 8) + i) (t / 8) (omega arith) (omega arith) ∙ (let e : (8 + 64 * (t / 8) + (64 * (t % 8) + i) / 8) * 8 + (64 * (t % 8) + i) % 8 ≡ 8 * (8 + 8 * t) + i = omega arith in e))
+      ∙ ap (at 8 s) (in-row (64 * (t % 8) + i) (t / 8) (omega arith) (omega arith)
+      ∙ (let e : (8 + 64 * (t / 8) + (64 * (t % 8) + i) / 8) * 8 + (64 * (t % 8) + i) % 8 ≡ 8 * (8 + 8 * t) + i = omega arith in e))
 
   pub lists-begin : (m : List ℕ) (v : ℕ) → length m ≡ 513 → ((i : ℕ) → getD m i 0 ≡ 0) → v ≡ ofBits 64 (λ i. at 8 s (8 * 0 + i))
       → set m 0 v ≡ lacking 64 513 (ahead eights 0) (convert rows lists s)
@@ -217,13 +235,16 @@ module _ (s : List ℕ) where
       let n : length t ≡ 513 = convert-length rows lists rows-flat lists-flat s in
       begin-cells 64 513 1 (omega arith) t (set m 0 v) eights eighth refl n
       (convert-cells rows lists rows-flat lists-flat s) (length-set m 0 v ∙ l)
-      (λ i b. let q : i ≡ 0 = omega arith in rw (q, getD-set-same m 0 v 0 (omega arith)) (e ∙ ofBits-cong 64 _ _ (λ i b. sym (live i b)) ∙ convert-cell rows lists rows-flat lists-flat s 0 (omega arith)))
+      (λ i b. let q : i ≡ 0 = omega arith in
+      rw (q, getD-set-same m 0 v 0 (omega arith))
+      (e ∙ ofBits-cong 64 _ _ (λ i b. sym (live i b)) ∙ convert-cell rows lists rows-flat lists-flat s 0 (omega arith)))
       (λ i b. getD-set-other m 0 i v 0 (λ q. omega arith) ∙ z i)
     where
       live : (i : ℕ) → i < 64 → at 64 (convert rows lists s) (0 * 64 + i) ≡ at 8 s (8 * 0 + i)
       live i b =
           ap (at 64 (convert rows lists s)) (let e : 0 * 64 + i ≡ i = omega arith in e)
-          ∙ convert-live rows lists rows-flat lists-flat s i (le-leb i 63 (omega arith)) ∙ ap (at 8 s) (let e : i ≡ 8 * 0 + i = omega arith in e)
+          ∙ convert-live rows lists rows-flat lists-flat s i (le-leb i 63 (omega arith))
+          ∙ ap (at 8 s) (let e : i ≡ 8 * 0 + i = omega arith in e)
 
   pub lists-open : (t rest : ℕ) → t < 512 → rest ≡ ofBits 64 (λ i. at 8 s (8 * (8 + 8 * t) + i))
       → lacking 64 513 (ahead eights t) (convert rows lists s) ≡ lacking 64 513 (pending eights eighth t rest) (convert rows lists s)
@@ -232,7 +253,8 @@ module _ (s : List ℕ) where
       open-block 64 513 (omega arith) (convert rows lists s) eights eighth t rest
       (λ k l q n. let i : ℕ = 8 * (k / 512 % 8) + k / 64 % 8 in
       let b : i < 64 = omega arith in
-      ap (at 64 (convert rows lists s)) (spot t i k (omega arith) q refl) ∙ list-grant t i h b ∙ sym (bit-ofBits 64 (λ i. at 8 s (8 * (8 + 8 * t) + i)) i b)
+      ap (at 64 (convert rows lists s)) (spot t i k (omega arith) q refl) ∙ list-grant t i h b
+      ∙ sym (bit-ofBits 64 (λ i. at 8 s (8 * (8 + 8 * t) + i)) i b)
       ∙ ap (λ (x : ℕ). bit x i) (sym e) ∙ n)
 
   -- a bit put in, one of the eight bytes'

@@ -98,7 +98,8 @@ fn persons_on(source: &[u64], on: usize) -> u64
 
 // The bytes of one item, in the row of each person with a right on it.
 fn put_column(target: &mut [u8], source: &[u64], on: usize)
-    requires { ⌜ (length (now source) ≡ listWords) × (on < 64) × (now target ≡ lacking 8 rowBytes (ahead (rows .item) on) (convert lists rows (now source))) ⌝ }
+    requires { ⌜ (length (now source) ≡ listWords) × (on < 64)
+        × (now target ≡ lacking 8 rowBytes (ahead (rows .item) on) (convert lists rows (now source))) ⌝ }
     ensures { λ _. ⌜ now (target .exit) ≡ lacking 8 rowBytes (ahead (rows .item) (on + 1)) (convert lists rows (now (source .entry))) ⌝ }
 {
     let mut rest = persons_on(source, on);
@@ -153,7 +154,8 @@ fn eight(source: &[u8], first: usize) -> u64
 // Lists of the live set alone, whatever the target held.
 fn start_lists(target: &mut [u64], source: &[u8])
     requires { ⌜ (length (now source) ≡ rowBytes) × (length (now target) ≡ listWords) ⌝ }
-    ensures { λ _. ⌜ now (target .exit) ≡ lacking 64 listWords (ahead (λ (k : ℕ). 8 * lists .person k + lists .item k / 8) 0) (convert rows lists (now (source .entry))) ⌝ }
+    ensures { λ _. ⌜ now (target .exit) ≡ lacking 64 listWords (ahead (λ (k : ℕ). 8 * lists .person k + lists .item k / 8) 0)
+        (convert rows lists (now (source .entry))) ⌝ }
 {
     words::clear(target);
     target[0] = eight(source, 0);
@@ -161,8 +163,11 @@ fn start_lists(target: &mut [u64], source: &[u8])
 
 // The rights of eight items in a row: bit 8 * i + r of the eight bytes is right r on item i of the eight.
 fn put_eight(target: &mut [u64], source: &[u8], t: usize)
-    requires { ⌜ (length (now source) ≡ rowBytes) × (t < 512) × (now target ≡ lacking 64 listWords (ahead (λ (k : ℕ). 8 * lists .person k + lists .item k / 8) t) (convert rows lists (now source))) ⌝ }
-    ensures { λ _. ⌜ now (target .exit) ≡ lacking 64 listWords (ahead (λ (k : ℕ). 8 * lists .person k + lists .item k / 8) (t + 1)) (convert rows lists (now (source .entry))) ⌝ }
+    requires { ⌜ (length (now source) ≡ rowBytes) × (t < 512)
+        × (now target ≡ lacking 64 listWords (ahead (λ (k : ℕ). 8 * lists .person k + lists .item k / 8) t)
+        (convert rows lists (now source))) ⌝ }
+    ensures { λ _. ⌜ now (target .exit) ≡ lacking 64 listWords (ahead (λ (k : ℕ). 8 * lists .person k + lists .item k / 8) (t + 1))
+        (convert rows lists (now (source .entry))) ⌝ }
 {
     let p = (t / 8) as u32;
     let first = 1 + 64 * (t % 8);

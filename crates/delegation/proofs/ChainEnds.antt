@@ -3,18 +3,17 @@ use mathlib.Core.Path.{_≡_, refl, sym, ap, _∙_}
 use mathlib.Core.Bool.{Bool, true, false, _&&_, cond, false≢true}
 use mathlib.Core.List.{List}
 use Prim.Native.Nat.{ℕ, _+_, _-_, _*_}
-use native.Mathlib.Omega.{arith}
 use borrow.Author.Tests.{ne-eqb, eqb-true}
 use lib.ListN.{length}
 use lib.Dec.{eqb}
 use Rattle.model.specs.declared.Item.{Item}
 use Rattle.model.specs.declared.Right.{Right}
-use Rattle.model.specs.declared.Question.the-variants as question
 use Rattle.model.specs.declared.Answer.{Answer}
 use Rattle.model.specs.declared.ChainChecked.{ChainChecked}
 use Rattle.model.specs.declared.ChainChecked.the-variants as chain
-use Rattle.model.specs.Commands.{questionOf}
 use Rattle.model.specs.Answers.{numberOf, answerFor, Found, nothing, chainNumber, foundIn, foundSaid, chainCheckedOf}
+use Rattle.layouts.specs.declared.admit.CheckAdmission.the-variants as check
+use Rattle.layouts.specs.Admission.{checkAdmission}
 use Rattle.layouts.specs.Layouts.{grantCells}
 use Rattle.delegation.specs.Loans.{loanWords}
 use Rattle.delegation.specs.Images.{Images}
@@ -22,7 +21,8 @@ use Rattle.delegation.specs.Search.{foundOf, chainOf, heightOf, lengthOf
 use Rattle.delegation.specs.ChainUnit.{chainInOrder, chainSized, chainGuarded, chainCheckNumber, chainFound, ChainChecks}
 use Rattle.bits.proofs.Sets.{fst, snd}
 use Rattle.model.proofs.Commands.{question-asked}
-use Rattle.layouts.proofs.Guarding.{guard-passed, asked-stops, asked-beyond, asked-answered, check-guard-known}
+use Rattle.layouts.proofs.Guarding.{guard-passed, check-guard-known}
+use Rattle.layouts.proofs.Admission.{check-admitted}
 use Rattle.model.proofs.Answers.{Known, chain-refused, chain-number, found-said}
 
 -- images that may be read
@@ -35,39 +35,24 @@ chain-readable s room e =
     (eqb-true _ _ a, eqb-true _ _ b, snd (eqb (length (s .grants)) grantCells && eqb (length (s .loans)) loanWords) room (p .0), p .1)
 
 -- ---- a check
-module _ (s : Images) (buffer : List ℕ) (p o r : ℕ) where
-  abbrev sized : Bool
-  sized = chainSized s (eqb (length buffer) 8)
-
-  -- a refusal, of any number
-  refused : (a : Answer) (n : ℕ) → numberOf a ≡ n → n ≡ chainCheckNumber s buffer p o r → (n ≡ 0 → ⊥) → ChainChecks s buffer p o r (chain.Refused a) buffer s
-  refused a n e g h =
-      let f : eqb (chainCheckNumber s buffer p o r) 0 ≡ false = rw (← g) (ne-eqb n 0 h) in
-      (chain-refused a _ _ (e ∙ g) (λ z. h (g ∙ z)), sym (rw f), refl)
-
-  -- 1 or 2
-  pub chain-check-stops : (a : Answer) → numberOf a ≡ chainGuarded s (eqb (length buffer) 8) 0 → (numberOf a ≡ 0 → ⊥)
+module _ (s : Images) (buffer : List ℕ) (p o r : ℕ) (order : Answer) (e : numberOf order ≡ chainGuarded s (eqb (length buffer) 8) 0) where
+  -- 1, 2 or 3
+  pub chain-check-refused : (a : Answer) → check.Refused a ≡ checkAdmission order p o r
       → ChainChecks s buffer p o r (chain.Refused a) buffer s
-  chain-check-stops a e h = refused a (numberOf a) refl (asked-stops sized (chainInOrder s) p o r (numberOf a) e h) h
-
-  -- 3
-  pub chain-check-beyond : (a : Answer) → numberOf a ≡ 3 → chainGuarded s (eqb (length buffer) 8) 0 ≡ 0 → questionOf p o r ≡ question.Beyond
-      → ChainChecks s buffer p o r (chain.Refused a) buffer s
-  chain-check-beyond a n g e =
-      refused a 3 n (sym (asked-beyond sized (chainInOrder s) p o r g e)) (λ z. omega arith)
+  chain-check-refused a h =
+      let n = check-admitted (chainSized s (eqb (length buffer) 8)) (chainInOrder s) p o r order e (check.Refused a) h in
+      (chain-refused a _ _ (n .0) (λ z. n .1 (n .0 ∙ z)), sym (rw (← (n .0), ne-eqb (numberOf a) 0 (n .1))), refl)
 
   -- yes or no
-  pub chain-check-says : (x y : Item) (z : Right) (a : ChainChecked) (b : List ℕ) → chainGuarded s (eqb (length buffer) 8) 0 ≡ 0
-      → questionOf p o r ≡ question.Asked x y z → a ≡ foundSaid (foundOf (s .grants) (s .loans) (8 * y .0 + z .0) (x .0))
-      → b ≡ chainOf (s .grants) (s .loans) (8 * y .0 + z .0) (x .0) → ChainChecks s buffer p o r a b s
+  pub chain-check-says : (x y : Item) (z : Right) → check.Ready x y z ≡ checkAdmission order p o r → (a : ChainChecked) (b : List ℕ)
+      → a ≡ foundSaid (foundOf (s .grants) (s .loans) (8 * y .0 + z .0) (x .0))
+      → b ≡ chainOf (s .grants) (s .loans) (8 * y .0 + z .0) (x .0)
+      → ChainChecks s buffer p o r a b s
   unfolding chainCheckedOf
-  chain-check-says x y z a b g e k l =
-      let i = question-asked p o r x y z e in
-      let n : chainCheckNumber s buffer p o r ≡ 0 = asked-answered sized (chainInOrder s) p o r x y z g e in (
-        k ∙ sym (rw (n, ← (i .1), ← (i .2), ← (i .3))),
-        l ∙ sym (rw (n, ← (i .1), ← (i .2), ← (i .3))),
-        refl,
-      )
+  chain-check-says x y z h a b k l =
+      let n = check-admitted (chainSized s (eqb (length buffer) 8)) (chainInOrder s) p o r order e (check.Ready x y z) h in
+      let i = question-asked p o r x y z (n .2) in
+      (k ∙ sym (rw (n .1, ← (i .1), ← (i .2), ← (i .3))), l ∙ sym (rw (n .1, ← (i .1), ← (i .2), ← (i .3))), refl)
 
 -- ---- a check's number is some answer's, and what a check found is what its answer tells
 chain-check-known : (s : Images) (buffer : List ℕ) (p o r : ℕ) → Known (chainCheckNumber s buffer p o r)
@@ -78,7 +63,8 @@ found-none : (gs t : List ℕ) (key who : ℕ) → foundOf gs t key who .yes ≡
 unfolding foundOf
 found-none gs t key who = go (eqb (heightOf gs t key who) 0)
   where
-    go : (b : Bool) → cond b nothing (record { yes = true; depth = heightOf gs t key who - 1; persons = lengthOf gs t key who + 1 }) .yes ≡ false
+    go : (b : Bool) → cond b nothing
+        (record { yes = true; depth = heightOf gs t key who - 1; persons = lengthOf gs t key who + 1 }) .yes ≡ false
         → cond b nothing (record { yes = true; depth = heightOf gs t key who - 1; persons = lengthOf gs t key who + 1 }) ≡ nothing
     go true e = refl
     go false e = absurd (false≢true (sym e))
@@ -86,7 +72,9 @@ found-none gs t key who = go (eqb (heightOf gs t key who) 0)
 chain-found : (s : Images) (buffer : List ℕ) (p o r : ℕ)
     → foundIn (chainCheckedOf (chainCheckNumber s buffer p o r) (chainFound s buffer p o r)) ≡ chainFound s buffer p o r
 unfolding chainCheckedOf
-chain-found s buffer p o r = go (eqb (chainCheckNumber s buffer p o r) 0) (foundOf (s .grants) (s .loans) (8 * o + r) p) (found-none (s .grants) (s .loans) (8 * o + r) p)
+chain-found s buffer p o r =
+    go (eqb (chainCheckNumber s buffer p o r) 0) (foundOf (s .grants) (s .loans) (8 * o + r) p)
+    (found-none (s .grants) (s .loans) (8 * o + r) p)
   where
     go : (b : Bool) (f : Found) → (f .yes ≡ false → f ≡ nothing)
         → foundIn (cond b (foundSaid (cond b f nothing)) (chain.Refused (answerFor (chainCheckNumber s buffer p o r)))) ≡ cond b f nothing
@@ -94,7 +82,11 @@ chain-found s buffer p o r = go (eqb (chainCheckNumber s buffer p o r) 0) (found
     go false f h = refl
 
 -- what a check's answer tells: its number, and what was found
-pub chain-told : (s : Images) (buffer : List ℕ) (p o r : ℕ) (a : ChainChecked) → a ≡ chainCheckedOf (chainCheckNumber s buffer p o r) (chainFound s buffer p o r)
+pub chain-told : (s : Images) (buffer : List ℕ) (p o r : ℕ) (a : ChainChecked)
+    → a ≡ chainCheckedOf (chainCheckNumber s buffer p o r) (chainFound s buffer p o r)
     → (chainNumber a ≡ chainCheckNumber s buffer p o r) × (foundIn a ≡ chainFound s buffer p o r)
-chain-told s buffer p o r a e =
-    (ap chainNumber e ∙ chain-number _ (chainFound s buffer p o r) (chain-check-known s buffer p o r), ap foundIn e ∙ chain-found s buffer p o r)
+chain-told s buffer p o r a e = (
+  ap chainNumber e ∙ chain-number _ (chainFound s buffer p o r) (chain-check-known s buffer p o r),
+  ap foundIn e
+      ∙ chain-found s buffer p o r,
+)

@@ -17,11 +17,11 @@ use Rattle.delegation.specs.Images.{images, standingIn}
 use Rattle.delegation.specs.ChainUnit.{chainGuarded, chainUnit, chainFacts, chainAfter, chainFresh}
 use Rattle.bits.proofs.Sets.{fst, snd, both, by-cases, find, any-cong, all-mono}
 use Rattle.model.proofs.Commands.{ranged-command}
-use Rattle.model.proofs.Invariant.{same-grant, ranged, sound, Inv, rangedLoan, soundLoan, LoanInv, loans-ranged}
+use Rattle.model.proofs.Invariant.{same-grant, loans-ranged}
+use Rattle.model.specs.Invariant.{ranged, sound, Inv, rangedLoan, soundLoan, LoanInv, Kept}
 use Rattle.model.proofs.Answers.{table-same}
 use Rattle.layouts.proofs.Layouts.{bytes-laws, place-same, live-of, bit-at-of, length-of, held-of, order-of, fresh-of}
 use Rattle.delegation.proofs.Loans.{word-fields, wordOf-lt, sorted, rising-sorted, all-sorted, word-in, used-of, count-of, length-loans, order-loans}
-use Rattle.model.proofs.Steps.{Kept}
 use Rattle.delegation.proofs.Steps.{grantsOf, headerFor, imagesOf, few, few-sorted, chain-after}
 
 -- ---- in order
@@ -55,7 +55,13 @@ guard-chain j v n =
 full-of : (j : Journal) → LoanInv j → (a : Arguments) → fits a ≡ true → chainFacts (imagesOf j) a .full ≡ facts j a .full
 full-of j v a h =
     let k = few-sorted j v in
-    rw (count-of (headerFor j) (sorted (j .loans)) k, used-of (headerFor j) (sorted (j .loans)) k, few j v, word-in (loanIn a) (j .loans) h (loans-ranged j v))
+    rw (
+      count-of (headerFor j) (sorted (j .loans)) k,
+      used-of (headerFor j) (sorted (j .loans)) k,
+      few j v,
+      word-in (loanIn a)
+          (j .loans) h (loans-ranged j v),
+    )
 
 pub answer-chain : (j : Journal) → Kept j → (c : Command) → answerOf chainUnit (imagesOf j) c ≡ answered j c
 answer-chain j v c =
@@ -72,7 +78,8 @@ answer-chain j v c =
 pub step-chain : (j : Journal) → Kept j → (c : Command) → stepOf chainUnit (imagesOf j) c ≡ imagesOf (step j c)
 step-chain j v c = rw (answer-chain j v c) (go (eqb (answered j c) 0) refl)
   where
-    go : (b : Bool) → eqb (answered j c) 0 ≡ b → cond b (chainAfter (imagesOf j) (argumentsOf c)) (imagesOf j) ≡ imagesOf (cond b (apply j c) j)
+    go : (b : Bool) → eqb (answered j c) 0 ≡ b
+        → cond b (chainAfter (imagesOf j) (argumentsOf c)) (imagesOf j) ≡ imagesOf (cond b (apply j c) j)
     go true e = chain-after j v c (eqb-true (answered j c) 0 e)
     go false e = refl
 

@@ -14,7 +14,8 @@ use Rattle.model.specs.Journal.{Loan, loan, sameLoan, loanNames}
 use Rattle.delegation.specs.Loans.{lender, loanItem, loanRight, borrower, loanDepth, wordNames, wordOf, loanOf, rising, insert, loanWords, headerOf, headerWord, recounted, headerIn, loansImage, loansWith, loansKept, used, wordGood, loansInOrder, countOf}
 use Rattle.delegation.specs.declared.loan.Header.{Header}
 use Rattle.bits.proofs.Sets.{iff, fst, snd, both, any-cong}
-use Rattle.model.proofs.Invariant.{same-loan, loan-self, rangedLoan, distinct}
+use Rattle.model.proofs.Invariant.{same-loan, loan-self}
+use Rattle.model.specs.Invariant.{rangedLoan, distinct}
 use Rattle.delegation.proofs.Rising.{any-insert, all-insert, rising-insert, insert-present, length-insert, keep-insert}
 
 -- ---- a loan and its word
@@ -71,7 +72,8 @@ pub all-sorted : (q : ℕ → Bool) (ls : List Loan) → all (λ l. q (wordOf l)
 unfolding sorted all
 all-sorted q [] h = refl
 all-sorted q (l ∷ ls) h =
-    all-insert q (wordOf l) (sorted ls) (fst (q (wordOf l)) (all (λ l. q (wordOf l)) ls) h) (all-sorted q ls (snd (q (wordOf l)) (all (λ l. q (wordOf l)) ls) h))
+    all-insert q (wordOf l) (sorted ls) (fst (q (wordOf l)) (all (λ l. q (wordOf l)) ls) h)
+    (all-sorted q ls (snd (q (wordOf l)) (all (λ l. q (wordOf l)) ls) h))
 
 pub keep-sorted : (f : Loan → Bool) (g : ℕ → Bool) (q : Loan → Bool) (ls : List Loan) → all q ls ≡ true
     → ((l : Loan) → q l ≡ true → g (wordOf l) ≡ f l) → keep g (sorted ls) ≡ sorted (keep f ls)
@@ -88,10 +90,13 @@ keep-sorted f g q (l ∷ ls) h e =
     go true false e k = absurd (false≢true (sym e))
     go false true e k = absurd (false≢true e)
 
-pub word-in : (l : Loan) (ls : List Loan) → rangedLoan l ≡ true → all rangedLoan ls ≡ true → any (eqb (wordOf l)) (sorted ls) ≡ any (sameLoan l) ls
-word-in l ls h k = any-sorted (eqb (wordOf l)) ls ∙ any-cong (λ m. eqb (wordOf l) (wordOf m)) (sameLoan l) rangedLoan ls k (λ m r. word-same l m h r)
+pub word-in : (l : Loan) (ls : List Loan) → rangedLoan l ≡ true → all rangedLoan ls ≡ true
+    → any (eqb (wordOf l)) (sorted ls) ≡ any (sameLoan l) ls
+word-in l ls h k =
+    any-sorted (eqb (wordOf l)) ls ∙ any-cong (λ m. eqb (wordOf l) (wordOf m)) (sameLoan l) rangedLoan ls k (λ m r. word-same l m h r)
 
-pub sorted-add : (l : Loan) (ls : List Loan) → rangedLoan l ≡ true → all rangedLoan ls ≡ true → sorted (add sameLoan l ls) ≡ insert (wordOf l) (sorted ls)
+pub sorted-add : (l : Loan) (ls : List Loan) → rangedLoan l ≡ true → all rangedLoan ls ≡ true
+    → sorted (add sameLoan l ls) ≡ insert (wordOf l) (sorted ls)
 unfolding sorted add
 sorted-add l ls h k = go (any (sameLoan l) ls) refl
   where
@@ -105,7 +110,8 @@ length-sorted [] h d = refl
 length-sorted (l ∷ ls) h d =
     let a : rangedLoan l ≡ true = fst (rangedLoan l) (all rangedLoan ls) h in
     let k : all rangedLoan ls ≡ true = snd (rangedLoan l) (all rangedLoan ls) h in
-    length-insert (wordOf l) (sorted ls) (word-in l ls a k ∙ not-true (any (sameLoan l) ls) (fst (not (any (sameLoan l) ls)) (distinct ls) d))
+    length-insert (wordOf l) (sorted ls)
+    (word-in l ls a k ∙ not-true (any (sameLoan l) ls) (fst (not (any (sameLoan l) ls)) (distinct ls) d))
     ∙ ap suc (length-sorted ls k (snd (not (any (sameLoan l) ls)) (distinct ls) d))
 
 -- ---- a crate above knows the header of a table by these laws: it is read from word 0
@@ -122,10 +128,6 @@ module _ (h : Header) (ws : List ℕ) where
   pub count-of : length ws ≤ mostLoans → countOf (loansImage h ws) ≡ length ws
   unfolding recounted
   count-of few = ap (λ (x : Header). x .count) (header-of few)
-
-  pub recount-image : (n : ℕ) → loansImage (recounted h n) ws ≡ loansImage h ws
-  unfolding recounted loansImage
-  recount-image n = refl
 
   pub used-of : length ws ≤ mostLoans → used (loansImage h ws) ≡ ws
   unfolding used loansImage
@@ -159,7 +161,8 @@ zeros-are : (s : List ℕ) → all (eqb 0) s ≡ true → s ≡ replicate (lengt
 unfolding all
 zeros-are [] h = refl
 zeros-are (x ∷ xs) h =
-    ap₂ (λ (y : ℕ) (ys : List ℕ). y ∷ ys) (sym (eqb-true 0 x (fst (eqb 0 x) (all (eqb 0) xs) h))) (zeros-are xs (snd (eqb 0 x) (all (eqb 0) xs) h))
+    ap₂ (λ (y : ℕ) (ys : List ℕ). y ∷ ys) (sym (eqb-true 0 x (fst (eqb 0 x) (all (eqb 0) xs) h)))
+    (zeros-are xs (snd (eqb 0 x) (all (eqb 0) xs) h))
 
 pub order-loans : (f : ℕ → Bool) (h : Header) (ws : List ℕ) → length ws ≤ mostLoans → rising ws ≡ true → all (wordGood f) ws ≡ true
     → loansInOrder f (loansImage h ws) ≡ true
@@ -168,12 +171,14 @@ order-loans f h ws few r g =
     rw (count-of h ws few, used-of h ws few)
     (both (both (both (le-leb _ _ few) r) g) (ap (all (eqb 0)) (rest h ws) ∙ zeros (mostLoans - length ws)))
 
-image-of : (t : List ℕ) → length t ≡ loanWords → countOf t ≤ mostLoans → all (eqb 0) (drop (suc (countOf t)) t) ≡ true → t ≡ loansImage (headerIn t) (used t)
+image-of : (t : List ℕ) → length t ≡ loanWords → countOf t ≤ mostLoans → all (eqb 0) (drop (suc (countOf t)) t) ≡ true
+    → t ≡ loansImage (headerIn t) (used t)
 unfolding headerIn headerOf headerWord recounted used loansImage
 image-of [] l few z = absurd (omega arith)
 image-of (n ∷ s) l few z =
     let k : length (take n s) ≡ n = length-take-le n s (omega arith) in
-    let q : drop n s ≡ replicate (mostLoans - n) 0 = zeros-are (drop n s) z ∙ (let e : length (drop n s) ≡ mostLoans - n = simp length-drop (omega arith) in rw e) in
+    let q : drop n s ≡ replicate (mostLoans - n) 0 = zeros-are (drop n s) z
+    ∙ (let e : length (drop n s) ≡ mostLoans - n = simp length-drop (omega arith) in rw e) in
     rw k (ap (λ (l : List ℕ). n ∷ l) (sym (take-append-drop n s) ∙ rw q))
 
 -- a table in order is the image of its loans in use

@@ -18,7 +18,8 @@ use Rattle.delegation.specs.ChainUnit.{chainSized, chainInOrder, chainCh
 use Rattle.bits.proofs.Sets.{fst, snd, both, by-cases, find}
 use Rattle.model.proofs.Invariant.{passed, asked-in, asked-limits}
 use Rattle.model.proofs.Chain.{meets-access, greatest-exists}
-use Rattle.layouts.proofs.Layouts.{Laws, small, order-live}
+use Rattle.layouts.specs.Laws.{Laws}
+use Rattle.layouts.proofs.Layouts.{small, order-live}
 use Rattle.delegation.proofs.Search.{meets, dead-no}
 
 -- what the four rules derive from the grants and loans of the images
@@ -27,12 +28,15 @@ ImageAccess s = Access lender borrower loanDepth (λ p o r d. standingIn (s .gra
 
 -- the search alone, of any images, in order or not
 pub search-decides : (s : Images) → ((i : ℕ) → getD (s .grants) i 0 < 256) → (p o r : ℕ) → p ≤ 63 → o ≤ 63 → r ≤ 7 → (d : ℕ)
-    → ImageAccess s p o r d ↔ (foundOf (s .grants) (s .loans) (8 * o + r) p .yes ≡ true) × (d ≤ foundOf (s .grants) (s .loans) (8 * o + r) p .depth)
+    → ImageAccess s p o r d ↔ (foundOf (s .grants) (s .loans) (8 * o + r) p .yes ≡ true)
+    × (d ≤ foundOf (s .grants) (s .loans) (8 * o + r) p .depth)
 search-decides s bytes p o r hp ho hr d =
-    meets-access lender borrower loanDepth (λ p o r d. standingIn (s .grants) (grant p o r d) ≡ true) (LentIn (s .loans)) p o r (meets s bytes p o r hp ho hr) d
+    meets-access lender borrower loanDepth (λ p o r d. standingIn (s .grants) (grant p o r d) ≡ true) (LentIn (s .loans)) p o r
+    (meets s bytes p o r hp ho hr) d
 
 -- the check of person p on item o, right r
-module _ (s : Images) (bytes : (i : ℕ) → getD (s .grants) i 0 < 256) (buffer : List ℕ) (p o r : ℕ) (free : chainCheckNumber s buffer p o r ≡ 0) where
+module _ (s : Images) (bytes : (i : ℕ) → getD (s .grants) i 0 < 256) (buffer : List ℕ) (p o r : ℕ)
+    (free : chainCheckNumber s buffer p o r ≡ 0) where
   judged : (chainInOrder s ≡ true) × (asked p o r ≡ 0)
   judged = passed 1 (chainInOrder s) _ (passed 0 (chainSized s (eqb (length buffer) 8)) _ free .1)
 
@@ -45,7 +49,8 @@ module _ (s : Images) (bytes : (i : ℕ) → getD (s .grants) i 0 < 256) (buffer
   -- yes exactly when the rules derive the access, with the greatest depth derivable
   pub rules-decide : (d : ℕ) → ImageAccess s p o r d ↔ (chainFound s buffer p o r .yes ≡ true) × (d ≤ chainFound s buffer p o r .depth)
   rules-decide d =
-      meets-access lender borrower loanDepth (λ p o r d. standingIn (s .grants) (grant p o r d) ≡ true) (LentIn (s .loans)) p o r check-meets d
+      meets-access lender borrower loanDepth (λ p o r d. standingIn (s .grants) (grant p o r d) ≡ true)
+      (LentIn (s .loans)) p o r check-meets d
 
   -- the greatest allowance exists when any does
   pub image-greatest : {ps : List ℕ} {a : ℕ} → ImageChain s o r ps p a → Greatest (λ qs b. ImageChain s o r qs p b)

@@ -1,29 +1,29 @@
 -- Rounds and chains: an entry of round k is 1 + the greatest allowance of the chains with k loans, and what is read off the rounds is
 -- such a chain. So the check's answer and chain buffer are what chains say.
 use mathlib.Core.Path.{_≡_, refl, sym, ap, _∙_, subst}
-use mathlib.Core.Bool.{Bool, true, false, _&&_, cond, false≢true}
+use mathlib.Core.Bool.{Bool, true, _&&_, false≢true}
 use mathlib.Core.List.{List, [], _∷_, _++_}
 use mathlib.Core.Logic.{_↔_, by-cases, ⊎-elim}
 use Prim.Native.Nat.{ℕ, zero, suc, _+_, _-_, _*_, _/_, _%_, _≤_, _<_, min}
 use native.Mathlib.Omega.{arith}
 use native.Mathlib.Nat.{div-div-eq-div-mul, zero-lt-suc}
 use native.Mathlib.Decide.{decLt, ℕ-discrete}
-use lib.Dec.{eqb, ltb}
+use lib.Dec.{eqb}
 use lib.Count.{leading-length, leading-top, leading-of-zero}
 use borrow.Author.Tests.{eqb-true, eq-eqb, ne-eqb, le-leb, leb-true}
 use lib.ListN.{length, getD, replicate, length-append, length-replicate}
 use lib.Seq.{take-at, drop-at}
-use Rattle.bits.specs.Sets.{any, all, keep, most, firstAt, tabulate}
+use Rattle.bits.specs.Sets.{any, most, firstAt, tabulate}
 use Rattle.bits.specs.Bits.{bit}
 use Rattle.model.specs.Answers.{Found, nothing}
 use Rattle.model.specs.Journal.{grant}
 use Rattle.bits.specs.Cells.{at}
 use Rattle.layouts.specs.Layouts.{grantBytes, liveIn, inOrder}
 use Rattle.model.specs.Chain.{granted, lent, Meets}
-use Rattle.delegation.specs.Loans.{keyOf, lender, loanItem, loanRight, borrower, loanDepth, used, rising, wordGood, loansInOrder}
+use Rattle.delegation.specs.Loans.{keyOf, lender, loanItem, loanRight, borrower, loanDepth, used, wordGood, loansInOrder}
 use Rattle.delegation.specs.Images.{Images, standingIn, LentIn, ImageChain}
 use Rattle.delegation.specs.Search.{picked, height, grantRound, gain, arrive, arriving, nextRound, roundAt, column, lenderTo, traced, roundsOf, heightOf, lengthOf, foundOf, chainOf}
-use Rattle.bits.proofs.Sets.{fst, snd, both, find, all-mono, any-kept, all-keep, all-true}
+use Rattle.bits.proofs.Sets.{fst, snd, both, find, any-kept, all-true}
 use Rattle.bits.proofs.Indexed.{getD-tabulate, most-above, first-most, split, any-at, find-at}
 use Rattle.bits.proofs.Bits.{bit-high, bit-top}
 use Rattle.model.proofs.Invariant.{eqb-self}
@@ -61,22 +61,6 @@ picked-are t key w =
     any-kept (eqb w) (λ x. eqb (keyOf x) key) (λ x. true) (eqb (keyOf w) key) (used t) (all-true (used t))
     (λ x h e. ap (λ (y : ℕ). eqb (keyOf y) key) (sym (eqb-true w x e)))
 
-pub rising-keep : (f : ℕ → Bool) (xs : List ℕ) → rising xs ≡ true → rising (keep f xs) ≡ true
-unfolding rising keep all
-rising-keep f [] h = refl
-rising-keep f (x ∷ xs) h =
-    go (f x) (rising-keep f xs (snd (all (ltb x) xs) (rising xs) h))
-    (all-mono _ (ltb x) (keep f xs) (all-keep (ltb x) f xs (fst (all (ltb x) xs) (rising xs) h)) (λ y e. fst (ltb x y) (f y) e))
-  where
-    go : (b : Bool) → rising (keep f xs) ≡ true → all (ltb x) (keep f xs) ≡ true → rising (cond b (x ∷ keep f xs) (keep f xs)) ≡ true
-    go true i a = both a i
-    go false i a = i
-
--- so each is picked once
-pub picked-rising : (t : List ℕ) (key : ℕ) → rising (used t) ≡ true → rising (picked t key) ≡ true
-unfolding picked
-picked-rising t key h = rising-keep (λ w. eqb (keyOf w) key) (used t) h
-
 pub lent-picked : (t : List ℕ) (o r w : ℕ) → r ≤ 7 → LentIn t o r w ↔ any (eqb w) (picked t (8 * o + r)) ≡ true
 lent-picked t o r w h = (
   λ l. picked-are t (8 * o + r) w ∙ both (l .0) (eq-eqb (keyOf w) (8 * o + r) (omega (arith, key-parts w, l .1, l .2))),
@@ -106,7 +90,8 @@ lender-found ls round q v zero i h e = absurd (omega arith)
 lender-found ls round q v (suc n) i h e =
     by-cases (ℕ-discrete (arriving ls round q n) v)
     (λ d. (n, omega arith, d, rw (eq-eqb _ _ d)))
-    (λ d. let s = lender-found ls round q v n i (⊎-elim (λ (x : i ≡ n). absurd (d (ap (arriving ls round q) (sym x) ∙ e))) (λ l. l) (split h)) e in
+    (λ d. let s = lender-found ls round q v n i
+    (⊎-elim (λ (x : i ≡ n). absurd (d (ap (arriving ls round q) (sym x) ∙ e))) (λ l. l) (split h)) e in
     (s .0, omega arith, s .2, rw (ne-eqb _ _ d) (s .3)))
 
 -- ---- rounds
@@ -151,7 +136,8 @@ module _ (s : Images) (bytes : (i : ℕ) → getD (s .grants) i 0 < 256) (o r : 
   rounds = roundsOf (s .grants) (s .loans) (8 * o + r)
 
   -- no chain has more than its round says
-  pub complete : {ps : List ℕ} {q a : ℕ} → ImageChain s o r ps q a → q ≤ 63 → (k : ℕ) × (length ps ≡ suc k) × (a < getD (roundOf s o r k) q 0)
+  pub complete : {ps : List ℕ} {q a : ℕ} → ImageChain s o r ps q a → q ≤ 63 → (k : ℕ) × (length ps ≡ suc k)
+      × (a < getD (roundOf s o r k) q 0)
   unfolding roundAt
   complete (granted {p} {e} g) h =
       let d : e ≤ 7 = search (fst, snd, leb-true) in
@@ -219,7 +205,8 @@ module _ (gs t : List ℕ) (key who : ℕ) where
 
   pub found-yes : (heightOf gs t key who ≡ 0 → ⊥)
       → (foundOf gs t key who ≡ yesFound (heightOf gs t key who) (lengthOf gs t key who))
-      × (chainOf gs t key who ≡ traced (roundsOf gs t key) (picked t key) (lengthOf gs t key who) who ++ replicate (7 - lengthOf gs t key who) 255)
+      × (chainOf gs t key who ≡ traced (roundsOf gs t key) (picked t key) (lengthOf gs t key who) who ++ replicate
+      (7 - lengthOf gs t key who) 255)
   unfolding foundOf chainOf
   found-yes ne = (rw (ne-eqb _ _ ne), rw (ne-eqb _ _ ne))
 
@@ -263,20 +250,29 @@ meets s bytes p o r hp ho hr =
     }))
     (λ ne. let a = found-yes (s .grants) (s .loans) key p ne in
     let n = first-most f 8 (omega arith) in
-    let e : getD (roundOf s o r at) p 0 ≡ suc (most f 8 - 1) = ap (λ (x : List ℕ). getD x p 0) (sym (rounds-at s bytes o r ho hr at (n .0))) ∙ n .1 ∙ omega arith in
+    let e : getD (roundOf s o r at) p 0 ≡ suc (most f 8 - 1) = ap (λ (x : List ℕ). getD x p 0)
+    (sym (rounds-at s bytes o r ho hr at (n .0))) ∙ n .1 ∙ omega arith in
     rw (a .0, a .1) (record {
       eight = simp (length-append, length-replicate) (omega (arith, len, n .0));
       shown = λ t. rw (take-at us pad (at + 1) len) (traced-chain s bytes o r ho hr at p (most f 8 - 1) (n .0) hp e);
-      padded = λ t. (omega arith, omega arith, drop-at us pad (at + 1) len ∙ (let z : 7 - at ≡ 8 - (at + 1) = omega arith in λ j. replicate (z j) 255));
+      padded =
+          λ t. (
+            omega arith,
+            omega arith,
+            drop-at us pad (at + 1) len
+                ∙ (let z : 7 - at ≡ 8 - (at + 1) = omega arith in λ j. replicate (z j) 255),
+          );
       greatest = λ ps a c. (refl, omega (arith, above s bytes o r ho hr p hp ps a c));
       none = λ t. absurd (false≢true (sym t));
     }))
 
 -- the chains of images in order end at living persons and are on living items: so by `meets` a question about a dead item is answered no
 pub dead-no : (s : Images) → inOrder grantBytes (s .grants) ≡ true → loansInOrder (liveIn grantBytes (s .grants)) (s .loans) ≡ true
-    → {o r : ℕ} {ps : List ℕ} {p a : ℕ} → ImageChain s o r ps p a → (liveIn grantBytes (s .grants) p ≡ true) × (liveIn grantBytes (s .grants) o ≡ true)
+    → {o r : ℕ} {ps : List ℕ} {p a : ℕ} → ImageChain s o r ps p a → (liveIn grantBytes (s .grants) p ≡ true)
+    × (liveIn grantBytes (s .grants) o ≡ true)
 unfolding loansInOrder
-dead-no s hg hl {o} {r} (granted {p} {e} g) = order-live grantBytes bytes-laws (s .grants) hg (grant p o r e) (search (fst, snd, both)) (search (fst, snd))
+dead-no s hg hl {o} {r} (granted {p} {e} g) =
+    order-live grantBytes bytes-laws (s .grants) hg (grant p o r e) (search (fst, snd, both)) (search (fst, snd))
 dead-no s hg hl (lent w l c) =
     let good : ℕ → Bool = wordGood (liveIn grantBytes (s .grants)) in
     let f = find (eqb w) good (used (s .loans)) (search (fst, snd)) (l .0) in

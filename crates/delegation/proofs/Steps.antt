@@ -15,14 +15,15 @@ use Rattle.layouts.specs.Layouts.{grantBytes}
 use Rattle.delegation.specs.Loans.{wordOf, wordNames, freshHeader, loansImage}
 use Rattle.delegation.specs.Images.{Images, images}
 use Rattle.delegation.specs.ChainUnit.{chainAfter}
-use Rattle.model.proofs.Invariant.{accepted, rangedLoan, LoanInv, loans-ranged}
-use Rattle.layouts.proofs.Layouts.{imageOf, bytes-laws, created-of, deleted-of, allowed-of, withdrawn-of, same-image}
+use Rattle.model.proofs.Invariant.{accepted, loans-ranged}
+use Rattle.model.specs.Invariant.{rangedLoan, LoanInv, Kept}
+use Rattle.layouts.specs.Laws.{imageOf}
+use Rattle.layouts.proofs.Layouts.{bytes-laws, created-of, deleted-of, allowed-of, withdrawn-of, same-image}
 use Rattle.delegation.proofs.Loans.{word-names, word-same, sorted, keep-sorted, sorted-add, length-sorted, kept-of, with-of}
-use Rattle.model.proofs.Steps.{Kept}
 
 -- ---- the chain unit
 abbrev pub grantsOf : Journal → List ℕ
-grantsOf j = imageOf grantBytes bytes-laws j
+grantsOf j = imageOf grantBytes j
 
 -- what the table's header says of a journal beside the number of its loans
 abbrev pub headerFor : Journal → Header
@@ -47,7 +48,8 @@ chain-after j v (Delete by on) e =
     ap₂ images (deleted-of grantBytes bytes-laws j (v .inv) by on)
     (kept-of (headerFor j) (sorted (j .loans)) (few-sorted j (v .loan-inv)) (λ w. not (wordNames on w))
     ∙ ap (loansImage (headerFor j))
-    (keep-sorted (λ l. not (loanNames on l)) (λ w. not (wordNames on w)) rangedLoan (j .loans) (loans-ranged j (v .loan-inv)) (λ l h. ap not (word-names on l h))))
+    (keep-sorted (λ l. not (loanNames on l)) (λ w. not (wordNames on w)) rangedLoan (j .loans) (loans-ranged j (v .loan-inv))
+    (λ l h. ap not (word-names on l h))))
 chain-after j v (Allow by to on right depth) e =
     ap (λ g. images g (loansOf j (j .loans))) (allowed-of grantBytes bytes-laws j (v .inv) by to on right depth)
 chain-after j v (Withdraw by to on right) e =
@@ -56,7 +58,8 @@ chain-after j v (Lend by to on right depth) e =
     let a = argumentsOf (Lend by to on right depth) in
     ap₂ images (same-image grantBytes bytes-laws j (apply j (Lend by to on right depth)) refl refl)
     (with-of (headerFor j) (sorted (j .loans)) (few-sorted j (v .loan-inv)) (wordOf (loan by on right to depth))
-    ∙ ap (loansImage (headerFor j)) (sym (sorted-add (loan by on right to depth) (j .loans) (accepted (facts j a) a e .fits) (loans-ranged j (v .loan-inv)))))
+    ∙ ap (loansImage (headerFor j))
+    (sym (sorted-add (loan by on right to depth) (j .loans) (accepted (facts j a) a e .fits) (loans-ranged j (v .loan-inv)))))
 chain-after j v (Recall by to on right depth) e =
     let a = argumentsOf (Recall by to on right depth) in
     let l = loan by on right to depth in

@@ -94,6 +94,7 @@ chainFresh = record { grants = freshImage grantBytes; loans = loansImage freshHe
 abbrev pub chainFreshNumber : Images → ℕ
 chainFreshNumber s = 1 when not (eqb (length (s .grants)) grantCells && eqb (length (s .loans)) loanWords) else 0
 
+-- both images after it: 'all unchanged' where it is refused
 abbrev pub chainFreshOf : Images → Images
 chainFreshOf s = cond (eqb (chainFreshNumber s) 0) chainFresh s
 

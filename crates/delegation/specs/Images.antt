@@ -16,6 +16,7 @@ pub record Images : Type 0 where
   pub grants : List ℕ
   pub loans : List ℕ
 
+-- the same, of its parts
 abbrev pub images : List ℕ → List ℕ → Images
 images g t = record { grants = g; loans = t }
 

@@ -39,6 +39,7 @@ arriving ls round q i = arrive (getD round (lender (getD ls i 0)) 0) (getD ls i 
 unfoldable pub nextRound : List ℕ → List ℕ → List ℕ
 nextRound ls round = tabulate 64 (λ (q : ℕ). most (arriving ls round q) (length ls))
 
+-- round k: k loans more than the first
 unfoldable pub roundAt : List ℕ → List ℕ → ℕ → List ℕ
 roundAt first ls zero = first
 roundAt first ls (suc k) = nextRound ls (roundAt first ls k)
@@ -76,6 +77,7 @@ foundOf gs t key who =
     cond (eqb (heightOf gs t key who) 0) (record { yes = false; depth = 0; persons = 0 })
     (record { yes = true; depth = heightOf gs t key who - 1; persons = lengthOf gs t key who + 1 })
 
+-- the chain buffer: 'p0 first, 255 after the end'; 'on no, all 8 bytes are 255'
 unfoldable pub chainOf : List ℕ → List ℕ → ℕ → ℕ → List ℕ
 chainOf gs t key who =
     cond (eqb (heightOf gs t key who) 0) (replicate 8 255)

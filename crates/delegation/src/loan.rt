@@ -1,9 +1,13 @@
 // The one codec of a loan word, lender * 2^18 + on * 2^12 + right * 2^9 + borrower * 2^3 + depth, and of word 0 of a table of loans.
 // Each field is cut to its width: none depends on the bits above it.
 use model::Depth;
+use model::DepthRead;
 use model::Item;
+use model::ItemRead;
 use model::Right;
+use model::RightRead;
 ghost use mathlib.Core.Path.{_≡_};
+ghost use Prim.Native.Nat.{_%_};
 ghost use Rattle.model.specs.Journal.{loan};
 ghost use Rattle.delegation.specs.Loans.{wordOf, cut, lender, loanItem, loanRight, borrower, loanDepth, keyOf, keyFor, headerOf, headerWord, recounted, freshHeader};
 
@@ -48,34 +52,65 @@ pub fn word(lender: Item, on: Item, right: Right, borrower: Item, depth: Depth) 
     of + right.number() % 8 * 512 + borrower.number() % 64 * 8 + depth.number() % 8
 }
 
+// What the lowest bits of a number are as a kind; no number that is cut to them is beyond it.
+fn item_in(n: u32) -> Item
+    ensures { λ r. ⌜ r .0 ≡ n % 64 ⌝ }
+{
+    let kind = Item::read(n % 64);
+    match kind {
+        ItemRead::Within(item) => item,
+        ItemRead::Beyond => Item::root(),
+    }
+}
+
+fn right_in(n: u32) -> Right
+    ensures { λ r. ⌜ r .0 ≡ n % 8 ⌝ }
+{
+    let kind = Right::read(n % 8);
+    match kind {
+        RightRead::Within(right) => right,
+        RightRead::Beyond => Right::edit(),
+    }
+}
+
+fn depth_in(n: u32) -> Depth
+    ensures { λ r. ⌜ r .0 ≡ n % 8 ⌝ }
+{
+    let kind = Depth::read(n % 8);
+    match kind {
+        DepthRead::Within(depth) => depth,
+        DepthRead::Beyond => Depth::zero(),
+    }
+}
+
 pub fn lender(w: u32) -> Item
     ensures { λ r. ⌜ r .0 ≡ lender w ⌝ }
 {
-    Item::cut(w / 262144)
+    item_in(w / 262144)
 }
 
 pub fn item(w: u32) -> Item
     ensures { λ r. ⌜ r .0 ≡ loanItem w ⌝ }
 {
-    Item::cut(w / 4096)
+    item_in(w / 4096)
 }
 
 pub fn right(w: u32) -> Right
     ensures { λ r. ⌜ r .0 ≡ loanRight w ⌝ }
 {
-    Right::cut(w / 512)
+    right_in(w / 512)
 }
 
 pub fn borrower(w: u32) -> Item
     ensures { λ r. ⌜ r .0 ≡ borrower w ⌝ }
 {
-    Item::cut(w / 8)
+    item_in(w / 8)
 }
 
 pub fn depth(w: u32) -> Depth
     ensures { λ r. ⌜ r .0 ≡ loanDepth w ⌝ }
 {
-    Depth::cut(w)
+    depth_in(w)
 }
 
 // An item and a right in one number, as a loan word has them, and that of a loan word.

@@ -35,11 +35,13 @@ module _ (s : List ℕ) (on : ℕ) (w : on < 64) (h : (i : ℕ) → getD s i 0 <
 
   -- what the code tests, with the masks d
   shown-is : (d : List ℕ) → d ≡ masksOf s
-      → allBelow 64 (λ p. allBelow 8 (λ r. eqb (bitAnd (getD block (p + 64 * r) 0) (bitOr (getD d on 0) (getD d p 0))) 0)) ≡ allBelow 64 personOk
+      → allBelow 64 (λ p. allBelow 8 (λ r. eqb (bitAnd (getD block (p + 64 * r) 0) (bitOr (getD d on 0) (getD d p 0))) 0))
+      ≡ allBelow 64 personOk
   shown-is d e =
       below-ext 64 _ personOk
       (λ p u. below-ext 8 _ _
-      (λ r v. let part = getD-take (8 + 512 * on + 512 - (8 + 512 * on)) (drop (8 + 512 * on) s) (p + 64 * r) 0 (omega arith) ∙ getD-drop (8 + 512 * on) s (p + 64 * r) 0 in
+      (λ r v. let part = getD-take (8 + 512 * on + 512 - (8 + 512 * on)) (drop (8 + 512 * on) s) (p + 64 * r) 0 (omega arith)
+      ∙ getD-drop (8 + 512 * on) s (p + 64 * r) 0 in
       rw (part, masks-at s d e on w, masks-at s d e p u) (mask-both 8 (byte p r) (at 8 s on) (at 8 s p) (h _))))
 
   block-bytes : blockOk grantBytes s 4096 on ≡ allBelow 64 personOk
@@ -52,8 +54,10 @@ module _ (s : List ℕ) (on : ℕ) (w : on < 64) (h : (i : ℕ) → getD s i 0 <
       (λ p u. below-ext 8 _ _
       (λ r v. below-ext 8 _ _
       (λ d z. ap₂ (λ x y. not x || y)
-      (ap (at 8 s) (let e : 64 + (4096 * on + (8 * (64 * r + p) + d)) ≡ (8 + 512 * on + (p + 64 * r)) * 8 + d = omega arith in e) ∙ at-cell 8 (omega arith) s _ d z)
-      (ap₂ _&&_ (ap (at 8 s) (let e : (4096 * on + (8 * (64 * r + p) + d)) / 8 % 64 ≡ p = omega arith in e)) (ap (at 8 s) (let e : (4096 * on + (8 * (64 * r + p) + d)) / 4096 ≡ on = omega arith in e))
+      (ap (at 8 s) (let e : 64 + (4096 * on + (8 * (64 * r + p) + d)) ≡ (8 + 512 * on + (p + 64 * r)) * 8 + d = omega arith in e)
+      ∙ at-cell 8 (omega arith) s _ d z)
+      (ap₂ _&&_ (ap (at 8 s) (let e : (4096 * on + (8 * (64 * r + p) + d)) / 8 % 64 ≡ p = omega arith in e))
+      (ap (at 8 s) (let e : (4096 * on + (8 * (64 * r + p) + d)) / 4096 ≡ on = omega arith in e))
       ∙ and-comm (at 8 s p) (at 8 s on)))
       ∙ cell-named 8 (byte p r) (at 8 s on && at 8 s p) (h _)))
 

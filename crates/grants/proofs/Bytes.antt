@@ -28,7 +28,8 @@ unfolding grantBytes
 grants-held s p o r k e h =
     sym
     (any-cong _ (bit (getD s k 0)) (λ d. leb d 7) depths small
-    (λ d m. ap (at 8 s) (let z : 64 + ((512 * o + 64 * r + p) * 8 + d) ≡ k * 8 + d = omega arith in z) ∙ at-cell 8 (omega arith) s k d (omega (arith, leb-true d 7 m)))
+    (λ d m. ap (at 8 s) (let z : 64 + ((512 * o + 64 * r + p) * 8 + d) ≡ k * 8 + d = omega arith in z)
+    ∙ at-cell 8 (omega arith) s k d (omega (arith, leb-true d 7 m)))
     ∙ some-depth (getD s k 0) h)
 
 -- the places of a byte
@@ -55,7 +56,8 @@ module _ (s : List ℕ) (l : length s ≡ grantCells) (h : Cells 8 s) where
     unfolding grantBytes
     grants-withdraw =
         rw e
-        (withdraw-cell grantBytes bytes-laws s l h p o r (byteAt p o r) (omega arith) (λ i u. ne-eqb (i / 8) (byteAt p o r) (λ z. omega arith))
+        (withdraw-cell grantBytes bytes-laws s l h p o r (byteAt p o r) (omega arith)
+        (λ i u. ne-eqb (i / 8) (byteAt p o r) (λ z. omega arith))
         (λ i u. about p o r i a b c u))
 
   -- delete: the item out of the live set, its block, then its byte as a person in each row
@@ -63,11 +65,13 @@ module _ (s : List ℕ) (l : length s ≡ grantCells) (h : Cells 8 s) where
       → zeroed (spaced (8 + on) 64 512) (zeroed (spaced (8 + 512 * on) 1 512) (cleared s (on / 8) (on % 8))) ≡ deleted grantBytes s on
   unfolding grantBytes
   all-deleted on o =
-      delete-cells grantBytes bytes-laws s l h on (on / 8) (on % 8) (spaced (8 + 512 * on) 1 512) (spaced (8 + on) 64 512) o (omega arith) (omega arith) (omega arith)
+      delete-cells grantBytes bytes-laws s l h on (on / 8) (on % 8) (spaced (8 + 512 * on) 1 512) (spaced (8 + on) 64 512) o (omega arith)
+      (omega arith) (omega arith)
       (λ i u. rw (spaced-before (8 + 512 * on) 1 512 (i / 8) (omega arith), spaced-before (8 + on) 64 512 (i / 8) (omega arith)))
       (λ i u. let e : (64 + i) / 8 ≡ 8 + i / 8 = omega arith in
       let q : i / 8 / 512 ≡ i / 4096 = omega arith in
-      rw (e, spaced-block 8 512 on (i / 8) (omega arith), spaced-column 8 64 512 on (i / 8) o (omega arith), q) (or-comm (eqb (i / 4096) on) (eqb (i / 8 % 64) on)))
+      rw (e, spaced-block 8 512 on (i / 8) (omega arith), spaced-column 8 64 512 on (i / 8) o (omega arith), q)
+      (or-comm (eqb (i / 4096) on) (eqb (i / 8 % 64) on)))
 
   -- u, v and x are what the three steps of the code leave, i the item as the code has it
   pub grants-delete : (on i : ℕ) (u v x : List ℕ) → on < 64 → i ≡ on → u ≡ cleared s (on / 8) (on % 8)

@@ -20,10 +20,12 @@ use Rattle.layouts.specs.Convert.{convert, Converts, convertNumber, conv
 use Rattle.bits.proofs.Sets.{iff, fst, snd, both, or-left, or-right, by-cases, any-cong}
 use Rattle.bits.proofs.Indexed.{below-intro, below-elim}
 use Rattle.bits.proofs.Cells.{length-image, image-lt, cell-is}
-use Rattle.model.proofs.Invariant.{ranged, sound, Inv, passed}
-use Rattle.layouts.proofs.Layouts.{small, build-cong, imageOf, live-of, bit-at-of, live-build, bit-at-build}
+use Rattle.model.specs.Invariant.{ranged, sound, Inv}
+use Rattle.model.proofs.Invariant.{passed}
+use Rattle.layouts.proofs.Layouts.{small, build-cong, live-of, bit-at-of, live-build, bit-at-build}
+use Rattle.layouts.specs.Laws.{imageOf, Flat}
 use Rattle.bits.proofs.Marks.{Cells, image-is}
-use Rattle.layouts.proofs.Edits.{Flat, lists-flat, rows-flat}
+use Rattle.layouts.proofs.Edits.{lists-flat, rows-flat}
 
 -- what place k is about, at depth 0
 abbrev pub about : Layout → ℕ → Grant
@@ -42,7 +44,8 @@ module _ (L M : Layout) (F : Flat L) (G : Flat M) (s : List ℕ) where
   convert-cells i h = image-lt (M .width) (G .laws .wide) (M .cells) _ i (rw (length-image (M .width) (M .cells) _) at h)
 
   -- a cell has its bits
-  pub convert-cell : (c : ℕ) → c < M .cells → ofBits (M .width) (λ b. at (M .width) (convert L M s) (c * M .width + b)) ≡ getD (convert L M s) c 0
+  pub convert-cell : (c : ℕ) → c < M .cells
+      → ofBits (M .width) (λ b. at (M .width) (convert L M s) (c * M .width + b)) ≡ getD (convert L M s) c 0
   convert-cell c h = cell-is (M .width) (G .laws .wide) (convert L M s) c (convert-cells c (rw convert-length h))
 
   -- the same items live
@@ -65,7 +68,8 @@ module _ (L M : Layout) (F : Flat L) (G : Flat M) (s : List ℕ) where
   -- and the same persons hold the same rights
   pub convert-held : (p o r : ℕ) → items p o && rightDepth r 0 ≡ true → held M (convert L M s) p o r ≡ held L s p o r
   convert-held p o r h =
-      any-cong (λ d. grantBit M (convert L M s) (M .place (grant p o r d))) (λ d. grantBit L s (L .place (grant p o r d))) (λ d. leb d 7) depths small
+      any-cong (λ d. grantBit M (convert L M s) (M .place (grant p o r d))) (λ d. grantBit L s (L .place (grant p o r d)))
+      (λ d. leb d 7) depths small
       (λ d k. convert-grant (grant p o r d) (search (fst, snd, both)))
 
   -- of an image in order it is in order
@@ -75,25 +79,31 @@ module _ (L M : Layout) (F : Flat L) (G : Flat M) (s : List ℕ) where
       both (convert-live 0 refl ∙ fst (liveIn L s 0) _ e)
       (below-intro (M .size) _
       (λ k h. by-cases (grantBit M (convert L M s) k)
-      (λ t. or-right (not (grantBit M (convert L M s) k)) _ (named k h (sym (convert-bit k h) ∙ t) (below-elim (L .size) _ (snd (liveIn L s 0) _ e) (L .place (about M k)) (F .laws .below (about M k) (G .within k h)))))
+      (λ t. or-right (not (grantBit M (convert L M s) k)) _
+      (named k h (sym (convert-bit k h) ∙ t)
+      (below-elim (L .size) _ (snd (liveIn L s 0) _ e) (L .place (about M k)) (F .laws .below (about M k) (G .within k h)))))
       (λ t. or-left _ _ (ap not t))))
     where
       named : (k : ℕ) → k < M .size → grantBit L s (L .place (about M k)) ≡ true
-          → not (grantBit L s (L .place (about M k))) || (liveIn L s (L .person (L .place (about M k))) && liveIn L s (L .item (L .place (about M k)))) ≡ true
+          → not (grantBit L s (L .place (about M k)))
+          || (liveIn L s (L .person (L .place (about M k))) && liveIn L s (L .item (L .place (about M k)))) ≡ true
           → liveIn M (convert L M s) (M .person k) && liveIn M (convert L M s) (M .item k) ≡ true
       named k h t e =
           let r : ranged (about M k) ≡ true = G .within k h in
-          let q : liveIn L s (M .person k) && liveIn L s (M .item k) ≡ true = rw (t, F .laws .person-of (about M k) r, F .laws .item-of (about M k) r) at e in
+          let q : liveIn L s (M .person k) && liveIn L s (M .item k) ≡ true = rw
+          (t, F .laws .person-of (about M k) r, F .laws .item-of (about M k) r) at e in
           let a : leb (M .person k) 63 ≡ true = search (fst, snd) in
           let b : leb (M .item k) 63 ≡ true = search (fst, snd) in
-          both (convert-live (M .person k) a ∙ fst (liveIn L s (M .person k)) _ q) (convert-live (M .item k) b ∙ snd (liveIn L s (M .person k)) _ q)
+          both (convert-live (M .person k) a ∙ fst (liveIn L s (M .person k)) _ q)
+          (convert-live (M .item k) b ∙ snd (liveIn L s (M .person k)) _ q)
 
   -- every check of it answers as before
   pub convert-checks : length s ≡ L .cells → inOrder L s ≡ true → (p o r : ℕ)
       → (checkNumber M (convert L M s) p o r ≡ checkNumber L s p o r) × (checkYes M (convert L M s) p o r ≡ checkYes L s p o r)
   convert-checks l e p o r =
       let a : checkNumber L s p o r ≡ asked p o r = rw (eq-eqb (length s) (L .cells) l, e) in
-      let b : checkNumber M (convert L M s) p o r ≡ asked p o r = rw (eq-eqb (length (convert L M s)) (M .cells) convert-length, convert-order e) in
+      let b : checkNumber M (convert L M s) p o r ≡ asked p o r = rw
+      (eq-eqb (length (convert L M s)) (M .cells) convert-length, convert-order e) in
       (b ∙ sym a, rw (a, b) (go (items p o && rightDepth r 0) refl))
     where
       go : (b : Bool) → items p o && rightDepth r 0 ≡ b
@@ -102,7 +112,8 @@ module _ (L M : Layout) (F : Flat L) (G : Flat M) (s : List ℕ) where
       go false h = refl
 
 -- turned into another layout and back, an image is the same
-pub round-trip : (L M : Layout) → Flat L → Flat M → (s : List ℕ) → length s ≡ L .cells → Cells (L .width) s → convert M L (convert L M s) ≡ s
+pub round-trip : (L M : Layout) → Flat L → Flat M → (s : List ℕ) → length s ≡ L .cells → Cells (L .width) s
+    → convert M L (convert L M s) ≡ s
 unfolding convert build
 round-trip L M F G s l h =
     sym (image-is (L .width) (F .laws .wide) s (L .cells) _ l h
@@ -116,7 +127,7 @@ round-trip L M F G s l h =
     ∙ ap (grantBit L s) (F .onto (k - 64) c) ∙ ap (at (L .width) s) z)))))
 
 -- and the image of a journal becomes that journal's image in the other layout
-pub convert-of : (L M : Layout) (F : Flat L) (G : Flat M) (j : Journal) → Inv j → convert L M (imageOf L (F .laws) j) ≡ imageOf M (G .laws) j
+pub convert-of : (L M : Layout) (F : Flat L) (G : Flat M) (j : Journal) → Inv j → convert L M (imageOf L j) ≡ imageOf M j
 unfolding convert imageOf
 convert-of L M F G j v =
     build-cong M (G .laws) _ _ _ _ (λ i h. live-of L (F .laws) j i h)
@@ -133,13 +144,15 @@ convert-of L M F G j v =
         (λ e. let z : L .place g ≡ L .place (about M k) = eqb-true _ _ e in
         eq-eqb _ _
         (G .depthless _ _ _ (g .depth)
-        ∙ ap (M .place) (same-about (sym (A .person-of g r) ∙ ap (L .person) z ∙ A .person-of (about M k) q) (sym (A .item-of g r) ∙ ap (L .item) z ∙ A .item-of (about M k) q)
+        ∙ ap (M .place) (same-about (sym (A .person-of g r) ∙ ap (L .person) z ∙ A .person-of (about M k) q)
+        (sym (A .item-of g r) ∙ ap (L .item) z ∙ A .item-of (about M k) q)
         (sym (A .right-of g r) ∙ ap (L .right) z ∙ A .right-of (about M k) q))
         ∙ G .onto k h))
         (λ e. let z : M .place g ≡ k = eqb-true _ _ e in
         eq-eqb _ _
         (F .depthless _ _ _ (g .depth)
-        ∙ ap (L .place) (same-about (sym (B .person-of g r) ∙ ap (M .person) z) (sym (B .item-of g r) ∙ ap (M .item) z) (sym (B .right-of g r) ∙ ap (M .right) z))))
+        ∙ ap (L .place) (same-about (sym (B .person-of g r) ∙ ap (M .person) z) (sym (B .item-of g r) ∙ ap (M .item) z)
+        (sym (B .right-of g r) ∙ ap (M .right) z))))
 
 -- ---- the ends of a conversion of s, of layout L, into the buffer t
 module _ (L M : Layout) (s t : List ℕ) where
@@ -163,7 +176,8 @@ module _ (L M : Layout) (s t : List ℕ) where
       (numbered r _ k, refl, q ∙ sym (rw (← k, z)))
 
 -- what a conversion that is not refused was given
-convert-free : (L M : Layout) (s t : List ℕ) → convertNumber L M s t ≡ 0 → (length s ≡ L .cells) × (length t ≡ M .cells) × (inOrder L s ≡ true)
+convert-free : (L M : Layout) (s t : List ℕ) → convertNumber L M s t ≡ 0 → (length s ≡ L .cells) × (length t ≡ M .cells)
+    × (inOrder L s ≡ true)
 convert-free L M s t e =
     let p = passed 0 (eqb (length s) (L .cells) && eqb (length t) (M .cells)) _ e in (
       eqb-true _ _ (fst _ (eqb (length t) (M .cells)) (p .0)),

@@ -18,8 +18,9 @@ use Rattle.layouts.specs.Layouts.{Layout, lists, rows, liveIn, grantBit,
 use Rattle.bits.proofs.Sets.{iff, fst, snd, both, by-cases, find, any-same}
 use Rattle.bits.proofs.Indexed.{length-tabulate}
 use Rattle.bits.proofs.Bits.{bit-of-zero, some-bit}
-use Rattle.model.proofs.Invariant.{ranged}
-use Rattle.layouts.proofs.Layouts.{Laws, build-cong, lists-laws, rows-laws, depth-in, small}
+use Rattle.model.specs.Invariant.{ranged}
+use Rattle.layouts.specs.Laws.{Laws, Flat}
+use Rattle.layouts.proofs.Layouts.{build-cong, lists-laws, rows-laws, depth-in, small}
 use lib.Pow.{pow-pos}
 use Rattle.bits.specs.Zeros.{zeroed}
 use Rattle.bits.proofs.Marks.{Cells, blanks, blank, at-none, cleared, at-cleared, cells-cleared, marked, image-is, at-cell, at-marked, cells-marked}
@@ -27,14 +28,8 @@ use Rattle.bits.proofs.Zeros.{length-zeroed, at-zeroed, cells-zeroed, zeroed-on
 
 -- ---- the commands
 pub in-range : (p o r d : ℕ) → p < 64 → o < 64 → r < 8 → d < 8 → ranged (grant p o r d) ≡ true
-in-range p o r d a b e f = both (both (le-leb p 63 (omega arith)) (le-leb o 63 (omega arith))) (both (le-leb r 7 (omega arith)) (le-leb d 7 (omega arith)))
-
--- what lists and rows keep besides: a place has no depth, and every place is of a grant within the limits
-pub record Flat (L : Layout) : Type 0 where
-  pub laws : Laws L
-  pub depthless : (p o r d : ℕ) → L .place (grant p o r d) ≡ L .place (grant p o r 0)
-  pub onto : (k : ℕ) → k < L .size → L .place (grant (L .person k) (L .item k) (L .right k) 0) ≡ k
-  pub within : (k : ℕ) → k < L .size → ranged (grant (L .person k) (L .item k) (L .right k) 0) ≡ true
+in-range p o r d a b e f =
+    both (both (le-leb p 63 (omega arith)) (le-leb o 63 (omega arith))) (both (le-leb r 7 (omega arith)) (le-leb d 7 (omega arith)))
 
 pub lists-flat : Flat lists
 unfolding lists
@@ -55,7 +50,9 @@ rows-flat = record {
 }
 
 shifted : (i p : ℕ) → eqb (64 + i) (64 + p) ≡ eqb p i
-shifted i p = iff _ _ (λ z. let q = eqb-true (64 + i) (64 + p) z in eq-eqb p i (omega arith)) (λ z. let q = eqb-true p i z in eq-eqb (64 + i) (64 + p) (omega arith))
+shifted i p =
+    iff _ _ (λ z. let q = eqb-true (64 + i) (64 + p) z in eq-eqb p i (omega arith))
+    (λ z. let q = eqb-true p i z in eq-eqb (64 + i) (64 + p) (omega arith))
 
 module _ (L : Layout) (W : Laws L) where
   -- cells with the live set f and the places g
@@ -75,7 +72,8 @@ module _ (L : Layout) (W : Laws L) where
       rw (l, ← q) (div-lt-iff-lt-mul (W .wide) .1 (omega (arith, W .fits)))
 
   -- what p holds, in a layout without depth: one bit
-  pub held-is : Flat L → (s : List ℕ) (p o r c b : ℕ) → b < L .width → 64 + L .place (grant p o r 0) ≡ c * L .width + b → held L s p o r ≡ bit (getD s c 0) b
+  pub held-is : Flat L → (s : List ℕ) (p o r c b : ℕ) → b < L .width → 64 + L .place (grant p o r 0) ≡ c * L .width + b
+      → held L s p o r ≡ bit (getD s c 0) b
   unfolding any
   held-is F s p o r c b k e =
       simp (F .depthless) (same (grantBit L s (L .place (grant p o r 0))) ∙ ap (at (L .width) s) e ∙ at-cell (L .width) (W .wide) s c b k)
@@ -89,7 +87,8 @@ module _ (L : Layout) (W : Laws L) where
       → allowed L (marked s c b) (grant by on 0 0) ≡ created L s by on
   create-is s l by on c b o k e =
       let j : c < length s = cell-lt s c b on l (omega arith) e k in
-      let m : (i : ℕ) → at (L .width) (marked s c b) i ≡ at (L .width) s i || eqb i on = λ i. rw e (at-marked (L .width) (W .wide) s c b k i j) in
+      let m : (i : ℕ) → at (L .width) (marked s c b) i ≡ at (L .width) s i || eqb i on = λ i. rw e
+      (at-marked (L .width) (W .wide) s c b k i j) in
       build-cong L W _ _ _ _ (λ i u. m i ∙ or-comm (liveIn L s i) (eqb i on))
       (λ i u. ap (λ x. eqb (L .place (grant by on 0 0)) i || x) (m (64 + i) ∙ rw (ne-eqb (64 + i) on (λ z. omega arith)) (or-false _)))
 
@@ -102,7 +101,9 @@ module _ (L : Layout) (W : Laws L) where
         let j : c < length s = cell-lt s c b _ l (omega arith) e k in
         build-is (marked s c b) _ _ (length-set s _ _ ∙ l) (cells-marked (L .width) (W .wide) s c b k j h)
         (λ i u. at-marked (L .width) (W .wide) s c b k i j ∙ rw (ne-eqb i (c * L .width + b) (λ z. omega arith)) (or-false _))
-        (λ i u. at-marked (L .width) (W .wide) s c b k (64 + i) j ∙ rw (← e) (or-comm (grantBit L s i) (eqb (64 + i) (64 + L .place (grant to on right depth))) ∙ ap (λ x. x || grantBit L s i) (shifted i (L .place (grant to on right depth)))))
+        (λ i u. at-marked (L .width) (W .wide) s c b k (64 + i) j
+        ∙ rw (← e) (or-comm (grantBit L s i) (eqb (64 + i) (64 + L .place (grant to on right depth)))
+        ∙ ap (λ x. x || grantBit L s i) (shifted i (L .place (grant to on right depth)))))
 
     -- the bit of one place to 0
     pub cleared-is : (p c b : ℕ) → p < L .size → b < L .width → 64 + p ≡ c * L .width + b
@@ -126,11 +127,13 @@ module _ (L : Layout) (W : Laws L) where
         about i g u =
             iff _ _
             (λ z. let q : i ≡ L .place (grant to on right 0) = sym (eqb-true (L .place (grant to on right 0)) i z) in
-            both (both (eq-eqb _ _ (ap (L .person) q ∙ W .person-of _ g)) (eq-eqb _ _ (ap (L .item) q ∙ W .item-of _ g))) (eq-eqb _ _ (ap (L .right) q ∙ W .right-of _ g)))
+            both (both (eq-eqb _ _ (ap (L .person) q ∙ W .person-of _ g)) (eq-eqb _ _ (ap (L .item) q ∙ W .item-of _ g)))
+            (eq-eqb _ _ (ap (L .right) q ∙ W .right-of _ g)))
             (λ z. let x : L .person i ≡ to = eqb-true _ _ (fst _ (eqb (L .item i) on) (fst _ (eqb (L .right i) right) z)) in
             let y : L .item i ≡ on = eqb-true _ _ (snd (eqb (L .person i) to) _ (fst _ (eqb (L .right i) right) z)) in
             let v : L .right i ≡ right = eqb-true _ _ (snd (eqb (L .person i) to && eqb (L .item i) on) _ z) in
-            let q : i ≡ L .place (grant to on right 0) = sym (F .onto i u) ∙ ap (L .place) (let q : grant (L .person i) (L .item i) (L .right i) 0 ≡ grant to on right 0 = cc in q) in
+            let q : i ≡ L .place (grant to on right 0) = sym (F .onto i u)
+            ∙ ap (L .place) (let q : grant (L .person i) (L .item i) (L .right i) 0 ≡ grant to on right 0 = cc in q) in
             eq-eqb (L .place (grant to on right 0)) i (sym q))
 
     -- delete: any cells with every bit but those that name the item
@@ -157,7 +160,8 @@ module _ (L : Layout) (W : Laws L) where
       let i1 : c < length (marked z 0 0) = rw (length-set z 0 (withBit (getD z 0 0) 0)) (cell-lt z c b _ l (omega arith) e k) in
       let m : (i : ℕ) → at (L .width) (marked (marked z 0 0) c b) i ≡ eqb i 0 || eqb i (64 + L .place (grant 0 0 0 0)) =
       λ i. at-marked (L .width) (W .wide) (marked z 0 0) c b k i i1
-      ∙ rw (e, at-marked (L .width) (W .wide) z 0 0 (W .wide) i i0, n i) (ap (λ (x : ℕ). eqb i x || eqb i (c * L .width + b)) (let y : 0 * L .width + 0 ≡ 0 = omega arith in y)) in
+      ∙ rw (e, at-marked (L .width) (W .wide) z 0 0 (W .wide) i i0, n i)
+      (ap (λ (x : ℕ). eqb i x || eqb i (c * L .width + b)) (let y : 0 * L .width + 0 ≡ 0 = omega arith in y)) in
       fresh-is _ (length-set (marked z 0 0) _ _ ∙ length-set z _ _ ∙ l)
       (cells-marked (L .width) (W .wide) (marked z 0 0) c b k i1 (cells-marked (L .width) (W .wide) z 0 0 (W .wide) i0 f))
       (λ i u. m i ∙ rw (ne-eqb i (64 + L .place (grant 0 0 0 0)) (λ y. omega arith)) (or-false _))
@@ -174,10 +178,15 @@ module _ (L : Layout) (W : Laws L) where
     fresh-cells =
         let z : List ℕ = blanks (L .cells) in
         let l : length z ≡ L .cells = length-tabulate (L .cells) _ in
-        let q : set (set z 0 1) c 1 ≡ freshImage L = sym (second z (blank (L .cells))) ∙ fresh-marks z c 0 l (blank (L .cells)) (W .wide) e in
+        let q : set (set z 0 1) c 1 ≡ freshImage L = sym (second z (blank (L .cells)))
+        ∙ fresh-marks z c 0 l (blank (L .cells)) (W .wide) e in
         let i0 : 0 < length z = cell-lt z 0 0 0 l (omega arith) (omega arith) (W .wide) in
-        let i1 : c < length (set z 0 1) = rw (length-set z 0 1) (cell-lt z c 0 _ l (omega (arith, W .below (grant 0 0 0 0) refl)) e (W .wide)) in
-        (rw (← q) (getD-set-other (set z 0 1) c 0 1 0 (λ y. n (sym y)) ∙ getD-set-same z 0 1 0 i0), rw (← q) (getD-set-same (set z 0 1) c 1 0 i1))
+        let i1 : c < length (set z 0 1) = rw (length-set z 0 1)
+        (cell-lt z c 0 _ l (omega (arith, W .below (grant 0 0 0 0) refl)) e (W .wide)) in (
+          rw (← q) (getD-set-other (set z 0 1) c 0 1 0 (λ y. n (sym y)) ∙ getD-set-same z 0 1 0 i0),
+          rw (← q)
+              (getD-set-same (set z 0 1) c 1 0 i1),
+        )
 
     -- the same written over cells of 0
     pub fresh-written : (z : List ℕ) (x y : ℕ) → length z ≡ L .cells → ((i : ℕ) → getD z i 0 ≡ 0)
@@ -205,7 +214,8 @@ module _ (L : Layout) (W : Laws L) (s : List ℕ) (l : length s ≡ L .cells) (h
     unfolding left
     bits-left i =
         at-zeroed g (zeroed f (cleared s c b)) (L .width) i
-        ∙ rw (at-zeroed f (cleared s c b) (L .width) i, at-cleared (L .width) (W .wide) s c b k i j, ← e) (joined (at (L .width) s i && not (eqb i on)) (f (i / L .width)) (g (i / L .width)))
+        ∙ rw (at-zeroed f (cleared s c b) (L .width) i, at-cleared (L .width) (W .wide) s c b k i j, ← e)
+        (joined (at (L .width) s i && not (eqb i on)) (f (i / L .width)) (g (i / L .width)))
       where
         joined : (x y z : Bool) → x && not y && not z ≡ x && not (y || z)
         joined x true z = rw (and-false x)

@@ -1,5 +1,5 @@
 -- The ends of a command, in any layout.
-use mathlib.Core.Path.{_≡_, refl, sym, ap, _∙_, subst}
+use mathlib.Core.Path.{_≡_, refl, sym, ap, _∙_}
 use mathlib.Core.Bool.{Bool, true, false, _&&_}
 use mathlib.Core.List.{List}
 use Prim.Native.Nat.{ℕ}
@@ -8,26 +8,18 @@ use lib.ListN.{length}
 use lib.Dec.{eqb}
 use Rattle.model.specs.declared.Command.{Command}
 use Rattle.model.specs.declared.Arguments.{Arguments}
-use Rattle.model.specs.declared.Typed.{Typed}
-use Rattle.model.specs.declared.Item.{Item}
-use Rattle.model.specs.declared.Right.{Right}
-use Rattle.model.specs.declared.Question.the-variants as question
 use Rattle.model.specs.declared.Facts.{Facts}
-use Rattle.model.specs.declared.Within.the-variants as within
 use Rattle.model.specs.declared.Answer.{Answer}
 use Rattle.model.specs.declared.Answer.the-variants as is
 use Rattle.model.specs.declared.Checked.{Checked}
-use Rattle.model.specs.declared.Checked.the-variants as checked
 use Rattle.model.specs.declared.Offered.the-variants as offered
-use Rattle.model.specs.Commands.{argumentsOf, questionOf, Ranged, rawOf, withinOf}
-use Rattle.layouts.specs.Machine.{Machine, guardedBy, answerOf, Judged, Ran, Offers}
-use Rattle.model.specs.Answers.{answer, table, numberOf, answerFor, checkedNumber, checkedYes, checkedOf}
+use Rattle.model.specs.Commands.{argumentsOf}
+use Rattle.layouts.specs.Machine.{Machine, answerOf, Judged, Ran, Offers}
+use Rattle.model.specs.Answers.{table, numberOf, answerFor, checkedNumber, checkedYes}
 use Rattle.layouts.specs.Layouts.{Layout, inOrder, guarded, factsOf, flatUnit, liveIn, held, checkNumber, checkYes, Checks, Inspects, Freshens, freshImage}
 use Rattle.layouts.specs.Subjects.{subjectsOf, Tells}
-use Rattle.model.proofs.Answers.{numbered, Known, number-for, table-known, answer-known, checked-refused, checked-number, checked-yes}
-use native.Mathlib.Omega.{arith}
-use Rattle.model.proofs.Commands.{ranged-command, within-typed, within-beyond, question-asked}
-use Rattle.layouts.proofs.Guarding.{guard-off, guard-passed, guard-on, guard-known, asked-stops, asked-beyond, asked-answered, check-guard-known}
+use Rattle.model.proofs.Answers.{numbered, Known, number-for, table-known, answer-known, checked-number, checked-yes}
+use Rattle.layouts.proofs.Guarding.{guard-passed, guard-known, check-guard-known}
 
 -- ---- a command, in any machine
 module _ {S : Type 0} (M : Machine S) (s : S) where
@@ -48,39 +40,12 @@ module _ {S : Type 0} (M : Machine S) (s : S) where
         (t, k ∙ sym (rw (← t, eq-eqb (numberOf r) 0 (sym q ∙ h))))
 
   module _ (c : Command) where
-    abbrev first : ℕ → ℕ
-    first n = guardedBy (M .sized s) (M .ordered s) n
-
-    -- 1 or 2
-    pub ran-stops : (r : Answer) → numberOf r ≡ first 0 → (numberOf r ≡ 0 → ⊥) → Ran M s c r s
-    ran-stops r e h =
-        let g : numberOf r ≡ answerOf M s c = e ∙ guard-off (M .sized s) (M .ordered s) (answer (M .facts s (argumentsOf c)) (argumentsOf c)) (λ z. h (e ∙ z)) in
-        (numbered r _ g, rw (← g, ne-eqb (numberOf r) 0 h))
-
-    -- 3
-    pub ran-beyond : first 0 ≡ 0 → withinOf (argumentsOf c) ≡ within.Beyond → Ran M s c is.OutOfRange s
-    ran-beyond g e =
-        let a : answerOf M s c ≡ 3 = guard-on (M .sized s) (M .ordered s) (answer (M .facts s (argumentsOf c)) (argumentsOf c)) g ∙ rw (within-beyond (argumentsOf c) e) in
-        (numbered is.OutOfRange _ (sym a), rw a)
-
-    -- 4 to 10, or done
-    pub ran-judged : (t : Typed) (r : Answer) (x : S) → first 0 ≡ 0 → withinOf (argumentsOf c) ≡ within.Typed t
-        → Judged M s (rawOf t) (numberOf r) x → Ran M s c r x
-    ran-judged t r x g e j =
-        let p = within-typed (argumentsOf c) t e in
-        let k : Judged M s (argumentsOf c) (numberOf r) x = subst (λ d. Judged M s d (numberOf r) x) (p .1) j in
-        let a : answerOf M s c ≡ table (M .facts s (argumentsOf c)) (argumentsOf c) = guard-on (M .sized s) (M .ordered s) (answer (M .facts s (argumentsOf c)) (argumentsOf c)) g ∙ rw (p .0) in
-        (numbered r _ (k .0 ∙ sym a), k .1 ∙ sym (rw a))
-
     -- a command that is offered
     pub offers-ran : (r : Answer) (x : S) → M .has c ≡ true → Ran M s c r x → Offers M s c (offered.Answered r) x
     offers-ran r x h k = rw h (ap offered.Answered (k .0 .1), k .1)
 
     pub offers-passed : M .has c ≡ false → Offers M s c offered.Passed s
     offers-passed h = rw h (refl, refl)
-
-pub ran-ranged : (c : Command) (t : Typed) → withinOf (argumentsOf c) ≡ within.Typed t → Ranged (rawOf t)
-ran-ranged c t e = let p = within-typed (argumentsOf c) t e in subst (λ d. Ranged d) (sym (p .1)) (ranged-command (argumentsOf c) (p .0))
 
 -- ---- any layout
 module _ (L : Layout) (s : List ℕ) where
@@ -112,31 +77,14 @@ module _ (L : Layout) (s : List ℕ) where
   pub subjects-stop : (r : Answer) → numberOf r ≡ guarded L s 0 → (numberOf r ≡ 0 → ⊥) → Tells L s (record { answer = r; persons = 0 }) s
   subjects-stop r e h = (numbered r _ e, sym (rw (← e, ne-eqb (numberOf r) 0 h)), refl)
 
-  pub subjects-are : (r : Answer) (p : ℕ) → numberOf r ≡ guarded L s 0 → numberOf r ≡ 0 → p ≡ subjectsOf L s → Tells L s (record { answer = r; persons = p }) s
+  pub subjects-are : (r : Answer) (p : ℕ) → numberOf r ≡ guarded L s 0 → numberOf r ≡ 0 → p ≡ subjectsOf L s
+      → Tells L s (record { answer = r; persons = p }) s
   subjects-are r p e z q = (numbered r _ e, q ∙ sym (rw (← e, z)), refl)
 
   pub facts-are : (a : Arguments) (r : ℕ) (x y z w : Bool) → r ≡ 0
       → x ≡ liveIn L s (a .by) → y ≡ liveIn L s (a .on) → z ≡ liveIn L s (a .to) → w ≡ held L s (a .by) (a .on) r
       → _≡_ {A = Facts} (record { by = x; on = y; to = z; edits = w; full = false }) (factsOf L s a)
   facts-are a r x y z w er ex ey ez ew = rw (ex, ey, ez, ew, er)
-
-  module _ (p o r : ℕ) where
-    pub check-stops : (a : Answer) → numberOf a ≡ guarded L s 0 → (numberOf a ≡ 0 → ⊥) → Checks L s p o r (checked.Refused a) s
-    check-stops a e h =
-        let g : numberOf a ≡ checkNumber L s p o r = asked-stops (eqb (length s) (L .cells)) (inOrder L s) p o r (numberOf a) e h in
-        (checked-refused a _ _ g (λ z. h (g ∙ z)), refl)
-
-    pub check-beyond : guarded L s 0 ≡ 0 → questionOf p o r ≡ question.Beyond → Checks L s p o r (checked.Refused is.OutOfRange) s
-    check-beyond g e =
-        let a : checkNumber L s p o r ≡ 3 = asked-beyond (eqb (length s) (L .cells)) (inOrder L s) p o r g e in
-        (checked-refused is.OutOfRange _ _ (sym a) (λ z. let k : _≡_ {A = ℕ} 3 0 = sym a ∙ z in omega arith), refl)
-
-    pub check-says : (x y : Item) (z : Right) (a : Checked) (h : Bool) → guarded L s 0 ≡ 0 → questionOf p o r ≡ question.Asked x y z
-        → h ≡ held L s (x .0) (y .0) (z .0) → a ≡ checkedOf 0 h → Checks L s p o r a s
-    check-says x y z a h g e k q =
-        let i = question-asked p o r x y z e in
-        let n : checkNumber L s p o r ≡ 0 = asked-answered (eqb (length s) (L .cells)) (inOrder L s) p o r x y z g e in
-        (q ∙ rw n (ap (checkedOf 0) (k ∙ rw (i .1, i .2, i .3))), refl)
 
 -- ---- every number that a unit gives is some answer's
 pub flat-known : (L : Layout) (s : List ℕ) (c : Command) → Known (answerOf (flatUnit L) s c)

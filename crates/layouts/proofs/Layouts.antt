@@ -2,7 +2,7 @@
 use mathlib.Core.Path.{_≡_, refl, sym, ap, _∙_}
 use mathlib.Core.Bool.{Bool, true, false, not, _&&_, _||_, cond, false≢true}
 use mathlib.Core.List.{List}
-use Prim.Native.Nat.{ℕ, zero, suc, _+_, _-_, _*_, _%_, _^_, _≤_, _<_}
+use Prim.Native.Nat.{ℕ, zero, suc, _+_, _-_, _%_, _^_, _≤_, _<_}
 use native.Mathlib.Omega.{arith}
 use borrow.Author.Tests.{eqb-true, eq-eqb, leb-true, ltb-true, lt-ltb, le-ltb, le-leb, ltb-false}
 use lib.ListN.{length, getD, List·getD-eq-default}
@@ -19,19 +19,12 @@ use Rattle.bits.proofs.Sets.{iff, fst, snd, both, or-left, or-right, by-cases, 
 use Rattle.bits.proofs.Indexed.{below-intro, below-elim}
 use Rattle.bits.proofs.Cells.{image-lt, at-image, image-cong, length-image}
 use Rattle.model.proofs.Commands.{ranged-command}
-use Rattle.model.proofs.Invariant.{same-grant, lives-create, lives-delete, ranged, sound, Inv, to-parts, beyond-none}
+use Rattle.model.proofs.Invariant.{same-grant, lives-create, lives-delete, to-parts, beyond-none}
+use Rattle.model.specs.Invariant.{ranged, sound, Inv}
 use Rattle.model.specs.declared.Command.{Command}
 use Rattle.model.specs.declared.Command.the-variants.{Create, Delete, Allow, Withdraw}
 use Rattle.model.proofs.Answers.{table-same}
-
--- what a layout must keep
-pub record Laws (L : Layout) : Type 0 where
-  pub wide : 0 < L .width
-  pub fits : L .cells * L .width ≡ 64 + L .size
-  pub below : (g : Grant) → ranged g ≡ true → L .place g < L .size
-  pub person-of : (g : Grant) → ranged g ≡ true → L .person (L .place g) ≡ g .person
-  pub item-of : (g : Grant) → ranged g ≡ true → L .item (L .place g) ≡ g .item
-  pub right-of : (g : Grant) → ranged g ≡ true → L .right (L .place g) ≡ g .right
+use Rattle.layouts.specs.Laws.{Laws, placed, imageOf}
 
 -- ---- tools
 pub depth-in : (d : ℕ) → leb d 7 ≡ true → any (eqb d) depths ≡ true
@@ -44,7 +37,8 @@ depth-in (suc (suc (suc (suc zero)))) h = refl
 depth-in (suc (suc (suc (suc (suc zero))))) h = refl
 depth-in (suc (suc (suc (suc (suc (suc zero)))))) h = refl
 depth-in (suc (suc (suc (suc (suc (suc (suc zero))))))) h = refl
-depth-in (suc (suc (suc (suc (suc (suc (suc (suc d)))))))) h = absurd (omega (arith, leb-true (suc (suc (suc (suc (suc (suc (suc (suc d)))))))) 7 h))
+depth-in (suc (suc (suc (suc (suc (suc (suc (suc d)))))))) h =
+    absurd (omega (arith, leb-true (suc (suc (suc (suc (suc (suc (suc (suc d)))))))) 7 h))
 
 pub small : all (λ (d : ℕ). leb d 7) depths ≡ true
 unfolding all
@@ -61,10 +55,12 @@ module _ (L : Layout) (W : Laws L) where
   pub bit-at-build : (f g : ℕ → Bool) (k : ℕ) → k < L .size → grantBit L (build L f g) k ≡ g k
   unfolding build
   bit-at-build f g k h =
-      at-image (L .width) (W .wide) (L .cells) _ (64 + k) (omega (arith, W .fits)) ∙ ap (λ b. cond b (f (64 + k)) (g (64 + k - 64))) (le-ltb (64 + k) 64 (omega arith))
+      at-image (L .width) (W .wide) (L .cells) _ (64 + k) (omega (arith, W .fits))
+      ∙ ap (λ b. cond b (f (64 + k)) (g (64 + k - 64))) (le-ltb (64 + k) 64 (omega arith))
       ∙ ap g (let z : 64 + k - 64 ≡ k = omega arith in z)
 
-  pub build-cong : (f f′ g g′ : ℕ → Bool) → ((i : ℕ) → leb i 63 ≡ true → f i ≡ f′ i) → ((k : ℕ) → k < L .size → g k ≡ g′ k) → build L f g ≡ build L f′ g′
+  pub build-cong : (f f′ g g′ : ℕ → Bool) → ((i : ℕ) → leb i 63 ≡ true → f i ≡ f′ i) → ((k : ℕ) → k < L .size → g k ≡ g′ k)
+      → build L f g ≡ build L f′ g′
   unfolding build
   build-cong f f′ g g′ e d =
       image-cong (L .width) (W .wide) (L .cells) _ _
@@ -72,35 +68,24 @@ module _ (L : Layout) (W : Laws L) where
       (λ t. rw (t, d (k - 64) (omega (arith, ltb-false k 64 t, W .fits)))))
 
   -- ---- the image of a journal
-  abbrev pub placed : Journal → ℕ → Bool
-  placed j k = any (λ g. eqb (L .place g) k) (j .grants)
-
-  unfoldable pub imageOf : Journal → List ℕ
-  imageOf j = build L (lives j) (placed j)
-
-  pub live-of : (j : Journal) (i : ℕ) → leb i 63 ≡ true → liveIn L (imageOf j) i ≡ lives j i
+  pub live-of : (j : Journal) (i : ℕ) → leb i 63 ≡ true → liveIn L (imageOf L j) i ≡ lives j i
   unfolding imageOf
-  live-of j i h = live-build (lives j) (placed j) i h
+  live-of j i h = live-build (lives j) (placed L j) i h
 
-  pub bit-at-of : (j : Journal) (k : ℕ) → k < L .size → grantBit L (imageOf j) k ≡ placed j k
+  pub bit-at-of : (j : Journal) (k : ℕ) → k < L .size → grantBit L (imageOf L j) k ≡ placed L j k
   unfolding imageOf
-  bit-at-of j k h = bit-at-build (lives j) (placed j) k h
+  bit-at-of j k h = bit-at-build (lives j) (placed L j) k h
 
-  pub length-of : (j : Journal) → length (imageOf j) ≡ L .cells
+  pub length-of : (j : Journal) → length (imageOf L j) ≡ L .cells
   unfolding imageOf build
   length-of j = length-image (L .width) (L .cells) _
 
-  pub cells-of : (j : Journal) (i : ℕ) → getD (imageOf j) i 0 < 2 ^ L .width
+  pub cells-of : (j : Journal) (i : ℕ) → getD (imageOf L j) i 0 < 2 ^ L .width
   unfolding imageOf build
   cells-of j i =
       by-cases (ltb i (L .cells)) (λ t. image-lt (L .width) (W .wide) (L .cells) _ i (ltb-true i (L .cells) t))
-      (λ t. let past : length (imageOf j) ≤ i = rw (length-of j) (ltb-false i (L .cells) t) in
-      rw (List·getD-eq-default (imageOf j) 0 past) (pow-pos (L .width)))
-
-  -- a place of a grant is about that grant
-  pub to-of : (g : Grant) → ranged g ≡ true → (p o r : ℕ)
-      → eqb (L .person (L .place g)) p && eqb (L .item (L .place g)) o && eqb (L .right (L .place g)) r ≡ isTo p o r g
-  to-of g h p o r = rw (W .person-of g h, W .item-of g h, W .right-of g h)
+      (λ t. let past : length (imageOf L j) ≤ i = rw (length-of j) (ltb-false i (L .cells) t) in
+      rw (List·getD-eq-default (imageOf L j) 0 past) (pow-pos (L .width)))
 
   -- equal places are of grants that differ in depth at most
   pub place-to : (p o r : ℕ) → items p o && rightDepth r 0 ≡ true → (g : Grant) → ranged g ≡ true
@@ -121,20 +106,22 @@ module _ (L : Layout) (W : Laws L) where
       any-same (λ d. eqb (L .place g) (L .place (grant p o r d))) eqb eqb-true (g .depth) depths (depth-in (g .depth) d)
       (eq-eqb _ _ (ap (L .place) (let z : grant (g .person) (g .item) (g .right) (g .depth) ≡ grant p o r (g .depth) = cc in z))))
 
-  pub held-of : (j : Journal) → Inv j → (p o r : ℕ) → items p o && rightDepth r 0 ≡ true → held L (imageOf j) p o r ≡ hasGrant j p o r
+  pub held-of : (j : Journal) → Inv j → (p o r : ℕ) → items p o && rightDepth r 0 ≡ true → held L (imageOf L j) p o r ≡ hasGrant j p o r
   held-of j v p o r h =
-      any-cong (λ d. grantBit L (imageOf j) (L .place (grant p o r d))) (λ d. placed j (L .place (grant p o r d))) (λ d. leb d 7) depths small
+      any-cong (λ d. grantBit L (imageOf L j) (L .place (grant p o r d))) (λ d. placed L j (L .place (grant p o r d)))
+      (λ d. leb d 7) depths small
       (λ d k. bit-at-of j _ (W .below (grant p o r d) (search (fst, snd, both))))
       ∙ any-swap (λ d g. eqb (L .place g) (L .place (grant p o r d))) depths (j .grants)
-      ∙ any-cong (λ g. any (λ d. eqb (L .place g) (L .place (grant p o r d))) depths) (isTo p o r) (sound (lives j)) (j .grants) (v .grants-sound)
+      ∙ any-cong (λ g. any (λ d. eqb (L .place g) (L .place (grant p o r d))) depths) (isTo p o r) (sound (lives j)) (j .grants)
+      (v .grants-sound)
       (λ g k. place-to p o r h g (fst (ranged g) _ k))
 
-  pub order-of : (j : Journal) → Inv j → inOrder L (imageOf j) ≡ true
+  pub order-of : (j : Journal) → Inv j → inOrder L (imageOf L j) ≡ true
   unfolding inOrder
   order-of j v =
       both (live-of j 0 refl ∙ v .root)
       (below-intro (L .size) _
-      (λ k h. by-cases (grantBit L (imageOf j) k)
+      (λ k h. by-cases (grantBit L (imageOf L j) k)
       (λ t. let f = find (λ g. eqb (L .place g) k) (sound (lives j)) (j .grants) (v .grants-sound) (sym (bit-at-of j k h) ∙ t) in
       let g = f .0 in
       let s : sound (lives j) (f .0) ≡ true = f .1 in
@@ -146,7 +133,9 @@ module _ (L : Layout) (W : Laws L) where
       let li : leb (f .0 .item) 63 ≡ true = search (fst, snd) in
       let ap1 : lives j (f .0 .person) ≡ true = search (fst, snd) in
       let ai : lives j (f .0 .item) ≡ true = search (fst, snd) in
-      or-right (not (grantBit L (imageOf j) k)) _ (both (ap (liveIn L (imageOf j)) pe ∙ live-of j (f .0 .person) lp ∙ ap1) (ap (liveIn L (imageOf j)) it ∙ live-of j (f .0 .item) li ∙ ai)))
+      or-right (not (grantBit L (imageOf L j) k)) _
+      (both (ap (liveIn L (imageOf L j)) pe ∙ live-of j (f .0 .person) lp ∙ ap1)
+      (ap (liveIn L (imageOf L j)) it ∙ live-of j (f .0 .item) li ∙ ai)))
       (λ t. or-left _ _ (ap not t))))
 
   -- a grant in an image in order names living items
@@ -158,35 +147,37 @@ module _ (L : Layout) (W : Laws L) where
       let b = rw (t, W .person-of g rg, W .item-of g rg) at k in
       (fst _ _ b, snd (liveIn L s (g .person)) _ b)
 
-  pub guard-of : (j : Journal) → Inv j → (n : ℕ) → guarded L (imageOf j) n ≡ n
+  pub guard-of : (j : Journal) → Inv j → (n : ℕ) → guarded L (imageOf L j) n ≡ n
   guard-of j v n = rw (eq-eqb _ _ (length-of j), order-of j v)
 
   -- a check says yes exactly where the journal has a grant, and never beyond the limits
-  pub check-of : (j : Journal) → Inv j → (p o r : ℕ) → checkYes L (imageOf j) p o r ≡ hasGrant j p o r
+  pub check-of : (j : Journal) → Inv j → (p o r : ℕ) → checkYes L (imageOf L j) p o r ≡ hasGrant j p o r
   check-of j v p o r =
       by-cases (items p o && rightDepth r 0) (λ h. rw (guard-of j v _, h) (held-of j v p o r h))
       (λ h. rw (guard-of j v _, h) (sym (beyond-none j v p o r h)))
 
   -- a command's number, where the table asks nothing of loans
-  pub answer-of : (j : Journal) → Inv j → (c : Command) → knows (argumentsOf c .verb) 10 ≡ false → answerOf (flatUnit L) (imageOf j) c ≡ answered j c
+  pub answer-of : (j : Journal) → Inv j → (c : Command) → knows (argumentsOf c .verb) 10 ≡ false
+      → answerOf (flatUnit L) (imageOf L j) c ≡ answered j c
   answer-of j v c h =
       let a = argumentsOf c in
       guard-of j v _
       ∙ by-cases (fits a)
       (λ t. let r = ranged-command a t in
-      rw t (table-same (factsOf L (imageOf j) a) (facts j a) (live-of j _ (le-leb _ 63 (r .by))) (live-of j _ (le-leb _ 63 (r .on))) (live-of j _ (le-leb _ 63 (r .to)))
+      rw t (table-same (factsOf L (imageOf L j) a) (facts j a) (live-of j _ (le-leb _ 63 (r .by))) (live-of j _ (le-leb _ 63 (r .on)))
+      (live-of j _ (le-leb _ 63 (r .to)))
       (held-of j v _ _ 0 (both (both (le-leb _ 63 (r .by)) (le-leb _ 63 (r .on))) refl)) a (λ n. absurd (false≢true (sym h ∙ n)))))
       (λ t. rw t)
 
   -- ---- what the commands do to an image, as what they do to the journal
-  pub created-of : (j : Journal) → Inv j → (by on : ℕ) → created L (imageOf j) by on ≡ imageOf (apply j (Create by on))
+  pub created-of : (j : Journal) → Inv j → (by on : ℕ) → created L (imageOf L j) by on ≡ imageOf L (apply j (Create by on))
   unfolding imageOf
   created-of j v by on =
       build-cong _ _ _ _ (λ i h. ap (λ b. eqb i on || b) (live-of j i h) ∙ sym (lives-create j by on i))
       (λ k h. ap (λ b. eqb (L .place (grant by on 0 0)) k || b) (bit-at-of j k h)
       ∙ sym (any-add (λ g. eqb (L .place g) k) sameGrant same-grant (grant by on 0 0) (j .grants)))
 
-  pub deleted-of : (j : Journal) → Inv j → (by on : ℕ) → deleted L (imageOf j) on ≡ imageOf (apply j (Delete by on))
+  pub deleted-of : (j : Journal) → Inv j → (by on : ℕ) → deleted L (imageOf L j) on ≡ imageOf L (apply j (Delete by on))
   unfolding imageOf
   deleted-of j v by on =
       build-cong _ _ _ _ (λ i h. ap (λ b. b && not (eqb i on)) (live-of j i h) ∙ sym (lives-delete j by on i))
@@ -196,14 +187,16 @@ module _ (L : Layout) (W : Laws L) where
       let z : L .place g ≡ k = eqb-true _ _ q in
       rw (← z, W .person-of g rg, W .item-of g rg))))
 
-  pub allowed-of : (j : Journal) → Inv j → (by to on right depth : ℕ) → allowed L (imageOf j) (grant to on right depth) ≡ imageOf (apply j (Allow by to on right depth))
+  pub allowed-of : (j : Journal) → Inv j → (by to on right depth : ℕ)
+      → allowed L (imageOf L j) (grant to on right depth) ≡ imageOf L (apply j (Allow by to on right depth))
   unfolding imageOf
   allowed-of j v by to on right depth =
       build-cong _ _ _ _ (λ i h. live-of j i h)
       (λ k h. ap (λ b. eqb (L .place (grant to on right depth)) k || b) (bit-at-of j k h)
       ∙ sym (any-add (λ g. eqb (L .place g) k) sameGrant same-grant (grant to on right depth) (j .grants)))
 
-  pub withdrawn-of : (j : Journal) → Inv j → (by to on right : ℕ) → withdrawn L (imageOf j) to on right ≡ imageOf (apply j (Withdraw by to on right))
+  pub withdrawn-of : (j : Journal) → Inv j → (by to on right : ℕ)
+      → withdrawn L (imageOf L j) to on right ≡ imageOf L (apply j (Withdraw by to on right))
   unfolding imageOf
   withdrawn-of j v by to on right =
       build-cong _ _ _ _ (λ i h. live-of j i h)
@@ -214,11 +207,11 @@ module _ (L : Layout) (W : Laws L) where
       rw (← z, W .person-of g rg, W .item-of g rg, W .right-of g rg))))
 
   -- an image tells of live items and grants alone
-  pub same-image : (j k : Journal) → j .live ≡ k .live → j .grants ≡ k .grants → imageOf j ≡ imageOf k
+  pub same-image : (j k : Journal) → j .live ≡ k .live → j .grants ≡ k .grants → imageOf L j ≡ imageOf L k
   unfolding imageOf
   same-image j k e d = λ i. build L (λ n. any (eqb n) (e i)) (λ n. any (λ g. eqb (L .place g) n) (d i))
 
-  pub fresh-of : freshImage L ≡ imageOf fresh
+  pub fresh-of : freshImage L ≡ imageOf L fresh
   unfolding imageOf fresh freshImage any
   fresh-of = build-cong _ _ _ _ (λ i h. or-false (eqb i 0)) (λ k h. or-false (eqb (L .place (grant 0 0 0 0)) k))
     where

@@ -6,4 +6,5 @@ pub mod Subjects
 pub mod Order
 pub mod Guarding
 pub mod Ends
+pub mod Admission
 pub mod Steps

@@ -14,7 +14,8 @@ module _ (L : Layout) (s : List ℕ) where
   unfolding blockOk itemsOk personsOk
   two-parts n m =
       below-ext m _ _
-      (λ i u. below-ext n _ _ (λ j v. apart (grantBit L s (n * i + j)) (liveIn L s (L .person (n * i + j))) (liveIn L s (L .item (n * i + j))))
+      (λ i u. below-ext n _ _ (λ j v. apart (grantBit L s (n * i + j)) (liveIn L s (L .person (n * i + j)))
+      (liveIn L s (L .item (n * i + j))))
       ∙ below-and n (λ j. namesItem L s (n * i + j)) (λ j. namesPerson L s (n * i + j)))
       ∙ below-and m (itemsOk L s n) (personsOk L s n)
     where

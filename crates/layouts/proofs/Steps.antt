@@ -9,12 +9,13 @@ use Rattle.model.specs.Answers.{flat}
 use Rattle.layouts.specs.Machine.{stepOf}
 use Rattle.model.specs.Journal.{Journal, answered, apply, step}
 use Rattle.layouts.specs.Layouts.{Layout, after, flatUnit}
-use Rattle.model.proofs.Invariant.{Inv}
-use Rattle.layouts.proofs.Layouts.{Laws, imageOf, answer-of, created-of, deleted-of, allowed-of, withdrawn-of}
+use Rattle.model.specs.Invariant.{Inv}
+use Rattle.layouts.specs.Laws.{Laws, imageOf}
+use Rattle.layouts.proofs.Layouts.{answer-of, created-of, deleted-of, allowed-of, withdrawn-of}
 use Rattle.model.proofs.Steps.{flat-lends}
 
 module _ (L : Layout) (W : Laws L) where
-  after-of : (j : Journal) → Inv j → (c : Command) → flat c ≡ true → after L (imageOf L W j) (argumentsOf c) ≡ imageOf L W (apply j c)
+  after-of : (j : Journal) → Inv j → (c : Command) → flat c ≡ true → after L (imageOf L j) (argumentsOf c) ≡ imageOf L (apply j c)
   after-of j v (Create by on) h = created-of L W j v by on
   after-of j v (Delete by on) h = deleted-of L W j v by on
   after-of j v (Allow by to on right depth) h = allowed-of L W j v by to on right depth
@@ -22,9 +23,9 @@ module _ (L : Layout) (W : Laws L) where
   after-of j v (Lend by to on right depth) h = absurd (false≢true h)
   after-of j v (Recall by to on right depth) h = absurd (false≢true h)
 
-  pub step-of : (j : Journal) → Inv j → (c : Command) → flat c ≡ true → stepOf (flatUnit L) (imageOf L W j) c ≡ imageOf L W (step j c)
+  pub step-of : (j : Journal) → Inv j → (c : Command) → flat c ≡ true → stepOf (flatUnit L) (imageOf L j) c ≡ imageOf L (step j c)
   step-of j v c h = rw (answer-of L W j v c (flat-lends c h)) (go (eqb (answered j c) 0))
     where
-      go : (b : Bool) → cond b (after L (imageOf L W j) (argumentsOf c)) (imageOf L W j) ≡ imageOf L W (cond b (apply j c) j)
+      go : (b : Bool) → cond b (after L (imageOf L j) (argumentsOf c)) (imageOf L j) ≡ imageOf L (cond b (apply j c) j)
       go true = after-of j v c h
       go false = refl

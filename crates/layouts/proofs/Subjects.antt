@@ -14,17 +14,12 @@ use Rattle.layouts.specs.Subjects.{subjectsOf, isSubject}
 use Rattle.bits.proofs.Sets.{iff, fst, snd, both, find, any-same, any-mono, found}
 use Rattle.bits.proofs.Indexed.{some-intro, some-elim}
 use Rattle.bits.proofs.Bits.{bit-ofBits}
-use Rattle.model.proofs.Invariant.{ranged, sound, Inv, same-grant, eqb-self}
-use Rattle.layouts.proofs.Layouts.{Laws, depth-in, small, imageOf, bit-at-of, bytes-laws}
-use Rattle.layouts.proofs.Edits.{Flat, in-range, lists-flat, rows-flat}
+use Rattle.model.specs.Invariant.{ranged, sound, Inv}
+use Rattle.model.proofs.Invariant.{same-grant, eqb-self}
+use Rattle.layouts.specs.Laws.{Laws, imageOf, Flat, Whole}
+use Rattle.layouts.proofs.Layouts.{depth-in, small, bit-at-of, bytes-laws}
+use Rattle.layouts.proofs.Edits.{in-range, lists-flat, rows-flat}
 use Rattle.layouts.proofs.Convert.{about}
-
--- a layout each of whose places is that of a grant within the limits
-pub record Whole (L : Layout) : Type 0 where
-  pub laws : Laws L
-  pub grant-at : ℕ → Grant
-  pub place-at : (k : ℕ) → k < L .size → L .place (grant-at k) ≡ k
-  pub ranged-at : (k : ℕ) → k < L .size → ranged (grant-at k) ≡ true
 
 pub flat-whole : (L : Layout) → Flat L → Whole L
 flat-whole L F = record { laws = F .laws; grant-at = about L; place-at = F .onto; ranged-at = F .within }
@@ -50,10 +45,12 @@ module _ (L : Layout) where
   subject-bit s p h = bit-ofBits 64 (isSubject L s) p h
 
 -- the bit of a grant is a right held
-pub bit-holds : (L : Layout) (s : List ℕ) (g : Grant) → ranged g ≡ true → grantBit L s (L .place g) ≡ true → held L s (g .person) (g .item) (g .right) ≡ true
+pub bit-holds : (L : Layout) (s : List ℕ) (g : Grant) → ranged g ≡ true → grantBit L s (L .place g) ≡ true
+    → held L s (g .person) (g .item) (g .right) ≡ true
 bit-holds L s g r t =
     let d : leb (g .depth) 7 ≡ true = search (fst, snd) in
-    any-same (λ d. grantBit L s (L .place (grant (g .person) (g .item) (g .right) d))) eqb eqb-true (g .depth) depths (depth-in (g .depth) d) t
+    any-same (λ d. grantBit L s (L .place (grant (g .person) (g .item) (g .right) d))) eqb eqb-true (g .depth) depths
+    (depth-in (g .depth) d) t
 
 -- ---- a subject holds a right on an item, and who holds one is a subject
 module _ (L : Layout) (H : Whole L) (s : List ℕ) (p : ℕ) (h : p < 64) where
@@ -68,7 +65,8 @@ module _ (L : Layout) (H : Whole L) (s : List ℕ) (p : ℕ) (h : p < 64) where
   pub subject-holds : bit (subjectsOf L s) p ≡ true → (o : ℕ) × (r : ℕ) × (o ≤ 63) × (r ≤ 7) × (held L s p o r ≡ true)
   subject-holds e =
       let f = some-elim (L .size) _ (sym (subject-bit L s p h) ∙ e) in
-      about-subject (f .0) (f .1) (fst (grantBit L s (f .0)) _ (f .2)) (eqb-true _ _ (snd (grantBit L s (f .0)) _ (f .2))) (H .grant-at (f .0)) (H .ranged-at (f .0) (f .1)) (H .place-at (f .0) (f .1))
+      about-subject (f .0) (f .1) (fst (grantBit L s (f .0)) _ (f .2)) (eqb-true _ _ (snd (grantBit L s (f .0)) _ (f .2)))
+      (H .grant-at (f .0)) (H .ranged-at (f .0) (f .1)) (H .place-at (f .0) (f .1))
 
   pub holds-subject : (o r : ℕ) → o ≤ 63 → r ≤ 7 → held L s p o r ≡ true → bit (subjectsOf L s) p ≡ true
   holds-subject o r a b e =
@@ -79,24 +77,26 @@ module _ (L : Layout) (H : Whole L) (s : List ℕ) (p : ℕ) (h : p < 64) where
 
 -- ---- the subjects of a journal's image are the persons of its grants
 module _ (L : Layout) (W : Laws L) (j : Journal) (v : Inv j) (p : ℕ) (h : p < 64) where
-  pub subjects-of : bit (subjectsOf L (imageOf L W j)) p ≡ any (λ g. eqb (g .person) p) (j .grants)
+  pub subjects-of : bit (subjectsOf L (imageOf L j)) p ≡ any (λ g. eqb (g .person) p) (j .grants)
   subjects-of =
-      subject-bit L (imageOf L W j) p h ∙ iff _ _ named holds
+      subject-bit L (imageOf L j) p h ∙ iff _ _ named holds
     where
-      named : isSubject L (imageOf L W j) p ≡ true → any (λ g. eqb (g .person) p) (j .grants) ≡ true
+      named : isSubject L (imageOf L j) p ≡ true → any (λ g. eqb (g .person) p) (j .grants) ≡ true
       named e =
           let f = some-elim (L .size) _ e in
-          let u : L .person (f .0) ≡ p = eqb-true _ _ (snd (grantBit L (imageOf L W j) (f .0)) _ (f .2)) in
+          let u : L .person (f .0) ≡ p = eqb-true _ _ (snd (grantBit L (imageOf L j) (f .0)) _ (f .2)) in
           any-mono (λ g. eqb (L .place g) (f .0)) (λ g. eqb (g .person) p) (sound (lives j)) (j .grants) (v .grants-sound)
           (λ g k t. eq-eqb _ _ (sym (W .person-of g (fst (ranged g) _ k)) ∙ ap (L .person) (eqb-true _ _ t) ∙ u))
-          (sym (bit-at-of L W j (f .0) (f .1)) ∙ fst (grantBit L (imageOf L W j) (f .0)) _ (f .2))
+          (sym (bit-at-of L W j (f .0) (f .1)) ∙ fst (grantBit L (imageOf L j) (f .0)) _ (f .2))
 
-      holds : any (λ g. eqb (g .person) p) (j .grants) ≡ true → isSubject L (imageOf L W j) p ≡ true
+      holds : any (λ g. eqb (g .person) p) (j .grants) ≡ true → isSubject L (imageOf L j) p ≡ true
       holds e =
           let f = found (λ g. sound (lives j) g && eqb (g .person) p) sameGrant (λ g. simp eqb-self) (j .grants)
-          (any-mono (λ g. eqb (g .person) p) (λ g. sound (lives j) g && eqb (g .person) p) (sound (lives j)) (j .grants) (v .grants-sound) (λ g k t. both k t) e) in
+          (any-mono (λ g. eqb (g .person) p) (λ g. sound (lives j) g && eqb (g .person) p) (sound (lives j)) (j .grants) (v .grants-sound)
+          (λ g k t. both k t) e) in
           let r : ranged (f .0) ≡ true = fst (ranged (f .0)) _ (fst (sound (lives j) (f .0)) _ (f .1)) in
           let w : f .0 .person ≡ p = eqb-true _ _ (snd (sound (lives j) (f .0)) _ (f .1)) in
           some-intro (L .size) _ (L .place (f .0)) (W .below (f .0) r)
-          (both (bit-at-of L W j (L .place (f .0)) (W .below (f .0) r) ∙ any-same (λ g. eqb (L .place g) (L .place (f .0))) sameGrant same-grant (f .0) (j .grants) (f .2) (eqb-self (L .place (f .0))))
+          (both (bit-at-of L W j (L .place (f .0)) (W .below (f .0) r)
+          ∙ any-same (λ g. eqb (L .place g) (L .place (f .0))) sameGrant same-grant (f .0) (j .grants) (f .2) (eqb-self (L .place (f .0))))
           (eq-eqb _ _ (W .person-of (f .0) r ∙ w)))

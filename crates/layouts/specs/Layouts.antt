@@ -19,6 +19,7 @@ use Rattle.layouts.specs.Machine.{Machine, guardedBy}
 use Rattle.model.specs.Journal.{Grant, grant}
 use Rattle.bits.specs.Cells.{at, image}
 
+-- where an image has the bit of each grant
 pub record Layout : Type 0 where
   -- bits to a cell, and cells
   pub width : ℕ
@@ -31,13 +32,15 @@ pub record Layout : Type 0 where
   pub item : ℕ → ℕ
   pub right : ℕ → ℕ
 
--- the cells of the three images
+-- the cells of the three images: 'Lists: 513 words of 64 bits'
 abbrev pub listWords : ℕ
 listWords = 513
 
+-- 'Rows: 4,104 bytes'
 abbrev pub rowBytes : ℕ
 rowBytes = 4104
 
+-- 'Grants of a chain unit: 32,776 bytes'
 abbrev pub grantCells : ℕ
 grantCells = 32776
 
@@ -77,6 +80,7 @@ grantBytes = record {
   right = λ k. k / 512 % 8;
 }
 
+-- 'Depths are 0 to 7'
 abbrev pub depths : List ℕ
 depths = 0 ∷ 1 ∷ 2 ∷ 3 ∷ 4 ∷ 5 ∷ 6 ∷ 7 ∷ []
 
@@ -151,10 +155,11 @@ module _ (L : Layout) where
   abbrev pub Inspects : List ℕ → Answer → List ℕ → Type 0
   Inspects s r x = Numbered r (guarded s 0) × (x ≡ s)
 
-  -- the check's number, and whether it says yes
+  -- the check's number
   abbrev pub checkNumber : List ℕ → ℕ → ℕ → ℕ → ℕ
   checkNumber s p o r = guarded s (asked p o r)
 
+  -- whether it says yes: never beside a refusal
   abbrev pub checkYes : List ℕ → ℕ → ℕ → ℕ → Bool
   checkYes s p o r = eqb (checkNumber s p o r) 0 && held s p o r
 
@@ -174,6 +179,7 @@ module _ (L : Layout) where
   abbrev pub freshNumber : List ℕ → ℕ
   freshNumber s = 1 when not (eqb (length s) (L .cells)) else 0
 
+  -- the image after it: 'all unchanged' where it is refused
   abbrev pub freshOf : List ℕ → List ℕ
   freshOf s = cond (eqb (freshNumber s) 0) freshImage s
 

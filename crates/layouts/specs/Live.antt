@@ -5,5 +5,6 @@ use Prim.Native.Nat.{ℕ}
 use Rattle.bits.specs.Sets.{tabulate}
 use Rattle.bits.specs.Cells.{at}
 
+-- a mask for each of the 64 items
 unfoldable pub masksOf : List ℕ → List ℕ
 masksOf s = tabulate 64 (λ (i : ℕ). cond (at 8 s i) 0 255)

@@ -26,7 +26,8 @@ pub fn is_live(image: &[u8], item: Item) -> bool
 
 // The item into the live set, and out of it. A buffer that ends before the item's bit stays as it is.
 pub fn insert(image: &mut [u8], item: Item)
-    ensures { λ _. ⌜ now (image .exit) ≡ set (now (image .entry)) (item .0 / 8) (withBit (getD (now (image .entry)) (item .0 / 8) 0) (item .0 % 8)) ⌝ }
+    ensures { λ _. ⌜ now (image .exit) ≡ set (now (image .entry)) (item .0 / 8)
+        (withBit (getD (now (image .entry)) (item .0 / 8) 0) (item .0 % 8)) ⌝ }
 {
     let i = item.number();
     let k = (i / 8) as usize;
@@ -37,7 +38,8 @@ pub fn insert(image: &mut [u8], item: Item)
 }
 
 pub fn remove(image: &mut [u8], item: Item)
-    ensures { λ _. ⌜ now (image .exit) ≡ set (now (image .entry)) (item .0 / 8) (withoutBit (getD (now (image .entry)) (item .0 / 8) 0) (item .0 % 8)) ⌝ }
+    ensures { λ _. ⌜ now (image .exit) ≡ set (now (image .entry)) (item .0 / 8)
+        (withoutBit (getD (now (image .entry)) (item .0 / 8) 0) (item .0 % 8)) ⌝ }
 {
     let i = item.number();
     let k = (i / 8) as usize;
@@ -95,7 +97,8 @@ pub fn masks(image: &[u8]) -> [u8; 64]
 // A helper for the units above: they lend a part of 512 bytes.
 pub fn hides(block: &[u8], all: u8, masks: &[u8; 64]) -> bool
     requires { ⌜ length (now block) ≡ 512 ⌝ }
-    ensures { λ r. ⌜ r ≡ allBelow 64 (λ p. allBelow 8 (λ i. eqb (bitAnd (getD (now (block .entry)) (p + 64 * i) 0) (bitOr all (getD (now (masks .entry)) p 0))) 0)) ⌝ }
+    ensures { λ r. ⌜ r ≡ allBelow 64
+        (λ p. allBelow 8 (λ i. eqb (bitAnd (getD (now (block .entry)) (p + 64 * i) 0) (bitOr all (getD (now (masks .entry)) p 0))) 0)) ⌝ }
 {
     let mut bits: u8 = 0;
     let mut p: usize = 0;

@@ -32,7 +32,8 @@ unfolding beforeNewline
 newline-end s i h = rw (drop-end s i h) refl
 
 -- one more byte stored
-pub store-next : (buf₀ buf part : List ℕ) (at j : ℕ) → j < length part → buf ≡ sets buf₀ at (take j part) → set buf (at + j) (getD part j 0) ≡ sets buf₀ at (take (j + 1) part)
+pub store-next : (buf₀ buf part : List ℕ) (at j : ℕ) → j < length part → buf ≡ sets buf₀ at (take j part)
+    → set buf (at + j) (getD part j 0) ≡ sets buf₀ at (take (j + 1) part)
 store-next buf₀ buf part at j h e =
     let len : length (take j part) ≡ j = length-take-le j part (omega arith) in
     let k : at + j ≡ at + length (take j part) = ap (λ (n : ℕ). at + n) (sym len) in
@@ -64,15 +65,19 @@ past-more cap p n e h =
     (λ q. let ge = ltb-false (cap - p .len) n q in let k : p .len + n ≤ cap = omega arith in rw (q, e, le-ltb _ _ k) refl)
 
 -- the answers of feed and line
-module _ (buf : List ℕ) (p : Partial) (chunk : List ℕ) (n used : ℕ) (e : n ≡ length (beforeNewline chunk)) (u : used ≡ afterLine n (length chunk)) where
+module _ (buf : List ℕ) (p : Partial) (chunk : List ℕ) (n used : ℕ) (e : n ≡ length (beforeNewline chunk))
+    (u : used ≡ afterLine n (length chunk)) where
   pub fed-past : past (length buf) p n ≡ true
-      → _≡_ {A = Fed} (record { ended = ltb n (length chunk); used = used; held = record { len = p .len; over = true } }) (fedOf (length buf) p chunk)
+      → _≡_ {A = Fed} (record { ended = ltb n (length chunk); used = used; held = record { len = p .len; over = true } })
+      (fedOf (length buf) p chunk)
       × (buf ≡ bufferAfter buf p (beforeNewline chunk))
   unfolding heldAfter bufferAfter
   fed-past h = (rw (u, sym e, h), rw (sym e, h))
 
-  pub fed-more : past (length buf) p n ≡ false → (next : ℕ) (last : List ℕ) → next ≡ p .len + length (take n chunk) → last ≡ sets buf (p .len) (take n chunk)
-      → _≡_ {A = Fed} (record { ended = ltb n (length chunk); used = used; held = record { len = next; over = false } }) (fedOf (length buf) p chunk)
+  pub fed-more : past (length buf) p n ≡ false → (next : ℕ) (last : List ℕ) → next ≡ p .len + length (take n chunk)
+      → last ≡ sets buf (p .len) (take n chunk)
+      → _≡_ {A = Fed} (record { ended = ltb n (length chunk); used = used; held = record { len = next; over = false } })
+      (fedOf (length buf) p chunk)
       × (last ≡ bufferAfter buf p (beforeNewline chunk))
   unfolding heldAfter bufferAfter
   fed-more h next last q r =
@@ -89,7 +94,8 @@ pub holds-none : (buf : List ℕ) → Holds buf nothingHeld []
 holds-none buf = record { short = λ e. (refl, omega arith); long = λ e. absurd (false≢true e) }
 
 -- the bytes fed are added to the line
-pub holds-fed : (buf : List ℕ) (p : Partial) (l seg : List ℕ) → Holds buf p l → Holds (bufferAfter buf p seg) (heldAfter (length buf) p seg) (l ++ seg)
+pub holds-fed : (buf : List ℕ) (p : Partial) (l seg : List ℕ) → Holds buf p l
+    → Holds (bufferAfter buf p seg) (heldAfter (length buf) p seg) (l ++ seg)
 unfolding bufferAfter heldAfter
 holds-fed buf p l seg H =
     by-cases (past (length buf) p (length seg))
@@ -113,11 +119,14 @@ holds-fed buf p l seg H =
 
     taken : p .len + length seg ≤ length buf → take (p .len) buf ≡ l → take (p .len + length seg) (sets buf (p .len) seg) ≡ l ++ seg
     taken room e =
-        let n : length (take (p .len) buf ++ seg) ≡ p .len + length seg = length-append (take (p .len) buf) seg ∙ ap (λ (k : ℕ). k + length seg) (length-take-le (p .len) buf (omega arith)) in
-        rw (sets-eq seg buf (p .len) room) (take-at (take (p .len) buf ++ seg) (drop (p .len + length seg) buf) (p .len + length seg) n ∙ ap (λ (m : List ℕ). m ++ seg) e)
+        let n : length (take (p .len) buf ++ seg) ≡ p .len + length seg = length-append (take (p .len) buf) seg
+        ∙ ap (λ (k : ℕ). k + length seg) (length-take-le (p .len) buf (omega arith)) in
+        rw (sets-eq seg buf (p .len) room)
+        (take-at (take (p .len) buf ++ seg) (drop (p .len + length seg) buf) (p .len + length seg) n ∙ ap (λ (m : List ℕ). m ++ seg) e)
 
 -- with a buffer of 128 bytes the held line is read as the whole line is
 pub holds-line : (buf : List ℕ) (p : Partial) (l : List ℕ) → 128 ≤ length buf → Holds buf p l → heldLine buf p ≡ parseLine l
 holds-line buf p l big H =
     by-cases (p .over) (λ q. rw q (sym (long-malformed l (omega (arith, H .long q)))))
-    (λ q. let s = H .short q in let k : p .len + 0 ≤ length buf = omega (arith, s .1) in rw (q, le-ltb (length buf) (p .len + 0) k, s .0) refl)
+    (λ q. let s = H .short q in let k : p .len + 0 ≤ length buf = omega (arith, s .1) in
+    rw (q, le-ltb (length buf) (p .len + 0) k, s .0) refl)

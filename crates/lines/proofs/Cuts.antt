@@ -4,36 +4,20 @@ use mathlib.Core.Bool.{true, false, cond}
 use mathlib.Core.List.{List, [], _∷_, _++_, map, append-assoc, append-nil}
 use Prim.Native.Nat.{ℕ, suc, _≤_, _<_}
 use native.Mathlib.Omega.{arith}
-use native.Mathlib.Numerals.{add-one}
-use borrow.Author.Tests.{lt-ltb, le-ltb, ltb-true, ltb-false}
-use lib.ListN.{length, take, drop}
+use borrow.Author.Tests.{lt-ltb, le-ltb, ltb-false}
+use lib.ListN.{length, take}
 use lib.Seq.{length-take-le, length-sets}
 use lib.Dec.{eqb, ltb}
 use Rattle.bits.proofs.Sets.{by-cases}
 use Rattle.lines.specs.declared.collect.Partial.{Partial}
 use Rattle.lines.specs.declared.Parsed.{Parsed}
 use Rattle.lines.specs.declared.Parsed.the-variants.{Malformed}
-use Rattle.lines.specs.Collect.{Line, line, lastLine, linesFrom, linesOf, parsedOf, beforeNewline, begun, past, bufferAfter, endsIn, usedIn}
+use Rattle.lines.specs.Collect.{Line, line, lastLine, linesFrom, linesOf, parsedOf, beforeNewline, begun, past, bufferAfter, endsIn}
 use Rattle.lines.specs.Chunks.{whole, pieces, Collector, emptyWith, takes, collected}
 use Rattle.lines.proofs.Chunks.{Holds, holds-none, holds-fed, holds-line}
 
 -- ---- what `feed` takes at a time are the lines of what is left of a chunk
--- where a line ends in s, which t follows
-lines-end : (l s t : List ℕ) → length (beforeNewline s) < length s
-    → linesFrom l (s ++ t) ≡ line (l ++ beforeNewline s) true ∷ linesOf (drop (suc (length (beforeNewline s))) s ++ t)
-unfolding linesFrom beforeNewline
-lines-end l [] t h = absurd (omega arith)
-lines-end l (b ∷ s) t h =
-    by-cases (eqb b 10) (λ q. rw q (ap (λ (m : List ℕ). line m true ∷ linesOf (s ++ t)) (sym (append-nil l))))
-    (λ q.
-    let k : suc (length (beforeNewline s)) < suc (length s) = rw q at h in
-    rw q (lines-end (l ++ (b ∷ [])) s t (omega arith)
-    ∙ ap (λ (m : List ℕ). line m true ∷ linesOf (drop (suc (length (beforeNewline s))) s ++ t)) (append-assoc l (b ∷ []) (beforeNewline s))))
-
-pub lines-ended : (l s t : List ℕ) → endsIn s ≡ true → linesFrom l (s ++ t) ≡ line (l ++ beforeNewline s) true ∷ linesOf (drop (usedIn s) s ++ t)
-lines-ended l s t e = rw (e, add-one (length (beforeNewline s))) (lines-end l s t (ltb-true _ _ e))
-
--- where none does
+-- where no line ends in s, which t follows
 pub open-all : (s : List ℕ) → endsIn s ≡ false → beforeNewline s ≡ s
 unfolding beforeNewline
 open-all [] e = refl
@@ -79,7 +63,8 @@ begun-last buf p l H = by-cases (p .over) (λ q. rw q (over l (H .long q))) (λ 
     over [] h = absurd (omega arith)
     over (b ∷ l) h = refl
 
-    fits : (l : List ℕ) → (take (p .len) buf ≡ l) × (p .len ≤ length buf) → cond (ltb 0 (p .len)) (Malformed ∷ []) [] ≡ map parsedOf (lastLine l)
+    fits : (l : List ℕ) → (take (p .len) buf ≡ l) × (p .len ≤ length buf)
+        → cond (ltb 0 (p .len)) (Malformed ∷ []) [] ≡ map parsedOf (lastLine l)
     fits [] h =
         let n : p .len ≡ 0 = sym (length-take-le (p .len) buf (h .1)) ∙ ap length (h .0) in
         rw n

@@ -29,7 +29,8 @@ shown-one n h = rw (lt-ltb _ _ h) refl
 
 pub shown-more : (n : ℕ) → 10 ≤ n → shown n ≡ shown (n / 10) ++ ((48 + n % 10) ∷ [])
 unfolding shown
-shown-more n h = rw (le-ltb _ _ h) (ap (λ (l : List ℕ). l ++ ((48 + n % 10) ∷ [])) (enough n (suc (n / 10)) (n / 10) (omega arith) (omega arith)))
+shown-more n h =
+    rw (le-ltb _ _ h) (ap (λ (l : List ℕ). l ++ ((48 + n % 10) ∷ [])) (enough n (suc (n / 10)) (n / 10) (omega arith) (omega arith)))
 
 pub shown-more-length : (n : ℕ) → 10 ≤ n → length (shown n) ≡ length (shown (n / 10)) + 1
 shown-more-length n h = ap length (shown-more n h) ∙ length-append (shown (n / 10)) ((48 + n % 10) ∷ [])

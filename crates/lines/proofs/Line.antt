@@ -38,7 +38,8 @@ module _ (w s : List ℕ) (j i : ℕ) (hj : j < length w) where
 pub starts-length : (w l : List ℕ) → startsWith w l ≡ true → length w ≤ length l
 starts-length [] l e = omega arith
 starts-length (a ∷ w) [] e = absurd (false≢true e)
-starts-length (a ∷ w) (b ∷ l) e = by-cases (eqb b a) (λ q. omega (arith, starts-length w l (rw q at e))) (λ q. absurd (false≢true (rw q at e)))
+starts-length (a ∷ w) (b ∷ l) e =
+    by-cases (eqb b a) (λ q. omega (arith, starts-length w l (rw q at e))) (λ q. absurd (false≢true (rw q at e)))
 
 -- ---- numbers
 
@@ -95,7 +96,8 @@ module _ (ds : List ℕ) where
       and-2 (leb 1 (length ds)) _ (and-2 (leb (length ds) 10) _ (and-2 (leb (valueOf ds) 4294967295) _
       (rw (ne-eqb _ _ n, eq-eqb _ _ e) refl)))
 
-  all-good : 1 ≤ length ds → length ds ≤ 10 → valueOf ds ≤ 4294967295 → (eqb (length ds) 1 || not (eqb (getD ds 0 0) 48)) ≡ true → decimal ds ≡ true
+  all-good : 1 ≤ length ds → length ds ≤ 10 → valueOf ds ≤ 4294967295 → (eqb (length ds) 1 || not (eqb (getD ds 0 0) 48)) ≡ true
+      → decimal ds ≡ true
   unfolding decimal
   all-good a b c d = rw (le-leb _ _ a, le-leb _ _ b, le-leb _ _ c, d) refl
 
@@ -139,7 +141,8 @@ module _ (s : List ℕ) (at : ℕ) where
         let ok : decimal ds ≡ true = all-good ds (omega arith) (omega arith) (omega (arith, D .value, D .small)) d in
         rw (ok, D .value, q) refl
 
-pub digits-start : (s : List ℕ) (at i v : ℕ) → at ≤ i → i ≤ length s → v ≤ 4294967295 → valueOf (digits (drop at s)) ≡ valueFrom v (digits (drop i s))
+pub digits-start : (s : List ℕ) (at i v : ℕ) → at ≤ i → i ≤ length s → v ≤ 4294967295
+    → valueOf (digits (drop at s)) ≡ valueFrom v (digits (drop i s))
     → at + length (digits (drop at s)) ≡ i + length (digits (drop i s)) → digits (drop i s) ≡ [] → Digits s at i v
 digits-start s at i v le h m ev el none =
     let a : at + length (digits (drop at s)) ≡ i + 0 = rw none at el in

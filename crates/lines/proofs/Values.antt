@@ -1,6 +1,6 @@
 -- A value is read exactly where its decimal digits stand.
 use mathlib.Core.Path.{_≡_, refl, sym, ap, _∙_}
-use mathlib.Core.Bool.{true, false, not, _||_, false≢true, or-true}
+use mathlib.Core.Bool.{true, not, _||_, false≢true, or-true}
 use mathlib.Core.List.{List, [], _∷_, _++_, append-assoc, append-nil}
 use Prim.Native.Nat.{ℕ, zero, suc, _+_, _-_, _*_, _/_, _%_, _≤_, _<_}
 use native.Mathlib.Omega.{arith}
@@ -52,12 +52,15 @@ shown-digits [] a e = absurd (false≢true e)
 shown-digits (b ∷ ds) a e =
     let d = digit-low b (fst (digit b) (all digit ds) a) in
     let lead = snd (leb (valueOf (b ∷ ds)) 4294967295) _ (snd (leb (length (b ∷ ds)) 10) _ (snd (leb 1 (length (b ∷ ds))) _ e)) in
-    let one : shown (0 * 10 + (b - 48)) ≡ b ∷ [] = shown-one (0 * 10 + (b - 48)) (omega (arith, d .0, d .1)) ∙ (let s : 48 + (0 * 10 + (b - 48)) ≡ b = omega (arith, d .0) in rw s) in
+    let one : shown (0 * 10 + (b - 48)) ≡ b ∷ [] = shown-one (0 * 10 + (b - 48)) (omega (arith, d .0, d .1))
+    ∙ (let s : 48 + (0 * 10 + (b - 48)) ≡ b = omega (arith, d .0) in rw s) in
     by-cases (eqb b 48)
     (λ q. short ds (either (eqb (suc (length ds)) 1) (not (eqb b 48)) lead (λ z. z) (λ z. absurd (false≢true (sym (rw q) ∙ z)))) one)
-    (λ q. shown-append (0 * 10 + (b - 48)) ds (omega (arith, d .0, eqb-false b 48 q)) (snd (digit b) (all digit ds) a) ∙ ap (λ (l : List ℕ). l ++ ds) one)
+    (λ q. shown-append (0 * 10 + (b - 48)) ds (omega (arith, d .0, eqb-false b 48 q)) (snd (digit b) (all digit ds) a)
+    ∙ ap (λ (l : List ℕ). l ++ ds) one)
   where
-    short : (ds : List ℕ) → eqb (suc (length ds)) 1 ≡ true → shown (0 * 10 + (b - 48)) ≡ b ∷ [] → shown (valueFrom (0 * 10 + (b - 48)) ds) ≡ b ∷ ds
+    short : (ds : List ℕ) → eqb (suc (length ds)) 1 ≡ true → shown (0 * 10 + (b - 48)) ≡ b ∷ []
+        → shown (valueFrom (0 * 10 + (b - 48)) ds) ≡ b ∷ ds
     short [] z one = one
     short (x ∷ ds) z one = absurd (omega (arith, eqb-true (suc (suc (length ds))) 1 z))
 
@@ -111,7 +114,8 @@ decimal-shown n h =
     lead : (n : ℕ) → (eqb (length (shown n)) 1 || not (eqb (getD (shown n) 0 0) 48)) ≡ true
     lead n =
         by-cases (ltb n 10) (λ q. rw (shown-one n (ltb-true n 10 q)))
-        (λ q. rw (ne-eqb (getD (shown n) 0 0) 48 (λ e. omega (arith, first-digit n (omega (arith, ltb-false n 10 q))))) (or-true (eqb (length (shown n)) 1)))
+        (λ q. rw (ne-eqb (getD (shown n) 0 0) 48 (λ e. omega (arith, first-digit n (omega (arith, ltb-false n 10 q)))))
+        (or-true (eqb (length (shown n)) 1)))
 
 -- ---- places
 pub drop-past : (s : List ℕ) (at : ℕ) (a b : List ℕ) → drop at s ≡ a ++ b → drop (at + length a) s ≡ b
@@ -121,7 +125,8 @@ pub starts-split : (w l : List ℕ) → startsWith w l ≡ true → l ≡ w ++ d
 starts-split [] l e = refl
 starts-split (a ∷ w) [] e = absurd (false≢true e)
 starts-split (a ∷ w) (b ∷ l) e =
-    by-cases (eqb b a) (λ q. rw (eqb-true b a q) (ap (λ (m : List ℕ). a ∷ m) (starts-split w l (rw q at e)))) (λ q. absurd (false≢true (rw q at e)))
+    by-cases (eqb b a) (λ q. rw (eqb-true b a q) (ap (λ (m : List ℕ). a ∷ m) (starts-split w l (rw q at e))))
+    (λ q. absurd (false≢true (rw q at e)))
 
 pub starts-self : (w l : List ℕ) → startsWith w (w ++ l) ≡ true
 starts-self [] l = refl
@@ -148,7 +153,8 @@ module _ (s : List ℕ) (at v : ℕ) where
       (λ q. let f : Bad ≡ Value v n = rw q at e in let z : _≡_ {A = ℕ} 0 1 = cc in absurd (omega arith))
 
   -- and one that is shown there is read
-  pub number-read : (rest : List ℕ) → drop at s ≡ shown v ++ rest → v ≤ 4294967295 → digits rest ≡ [] → numberAt s at ≡ Value v (at + length (shown v))
+  pub number-read : (rest : List ℕ) → drop at s ≡ shown v ++ rest → v ≤ 4294967295 → digits rest ≡ []
+      → numberAt s at ≡ Value v (at + length (shown v))
   unfolding numberAt
   number-read rest e h stop =
       let d : digits (drop at s) ≡ shown v = ap digits e ∙ digits-all (shown v) rest (unfold shown in (shown-all (suc v) v)) stop in

@@ -82,7 +82,8 @@ pub struct Fed {
 
 // Takes the bytes of chunk through the first byte 10, or all of them where there is none.
 pub fn feed(buf: &mut [u8], p: Partial, chunk: &[u8]) -> Fed
-    ensures { λ r. ⌜ (r ≡ fedOf (length (now (buf .entry))) p (now (chunk .entry))) × (now (buf .exit) ≡ bufferAfter (now (buf .entry)) p (beforeNewline (now (chunk .entry)))) ⌝ }
+    ensures { λ r. ⌜ (r ≡ fedOf (length (now (buf .entry))) p (now (chunk .entry)))
+        × (now (buf .exit) ≡ bufferAfter (now (buf .entry)) p (beforeNewline (now (chunk .entry)))) ⌝ }
 {
     let len = p.len;
     let n = line_end(chunk);

@@ -39,7 +39,8 @@ module _ (s m t : List ℕ) (on a : ℕ) (l : length s ≡ 513) (o : on < 64) (q
       by-cases (eqb (j / 8) on) (λ e. let z = eqb-true (j / 8) on e in rw e (v .inside (1 + j) (omega arith) (omega arith)))
       (λ e. let z = eqb-false (j / 8) on e in
       rw e
-      (by-cases (ltb (1 + j) a) (λ b. v .below (1 + j) (ltb-true (1 + j) a b)) (λ b. v .above (1 + j) (omega (arith, ltb-false (1 + j) a b)))
+      (by-cases (ltb (1 + j) a) (λ b. v .below (1 + j) (ltb-true (1 + j) a b))
+      (λ b. v .above (1 + j) (omega (arith, ltb-false (1 + j) a b)))
       ∙ swept (1 + j) (omega arith)))
 
   cells-left : Cells 64 s → Cells 64 t
@@ -59,6 +60,9 @@ module _ (s m t : List ℕ) (on a : ℕ) (l : length s ≡ 513) (o : on < 64) (q
       delete-is lists lists-laws s l h t on (v .long ∙ u .long ∙ l) (cells-left h)
       (λ i b. word-bit t i 0 i b (omega arith) ∙ ap (λ (w : ℕ). bit w i) live-left ∙ bit-without (getD s 0 0) on i
       ∙ ap (λ x. x && not (eqb i on)) (sym (word-bit s i 0 i b (omega arith))))
-      (λ k b. word-bit t (64 + k) (1 + k / 64) (k % 64) (omega arith) (omega arith) ∙ ap (λ (w : ℕ). bit w (k % 64)) (list-left (k / 64) (omega arith))
+      (λ k b. word-bit t (64 + k) (1 + k / 64) (k % 64) (omega arith) (omega arith)
+      ∙ ap (λ (w : ℕ). bit w (k % 64)) (list-left (k / 64) (omega arith))
       ∙ word-left (getD s (1 + k / 64) 0) on (k % 64) (eqb (k / 64 / 8) on)
-      ∙ rw (let e : k / 64 / 8 ≡ k / 512 = omega arith in e) (ap (λ x. x && not (eqb (k % 64) on || eqb (k / 512) on)) (sym (word-bit s (64 + k) (1 + k / 64) (k % 64) (omega arith) (omega arith)))))
+      ∙ rw (let e : k / 64 / 8 ≡ k / 512 = omega arith in e)
+      (ap (λ x. x && not (eqb (k % 64) on || eqb (k / 512) on))
+      (sym (word-bit s (64 + k) (1 + k / 64) (k % 64) (omega arith) (omega arith)))))

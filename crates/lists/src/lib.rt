@@ -2,6 +2,9 @@
 // is the list of item on and that right, bit s for each person s granted it.
 use bits::word;
 use bits::words;
+use layouts::admit;
+use layouts::admit::CheckAdmission;
+use layouts::admit::CommandAdmission;
 use model::Answer;
 use model::Checked;
 use model::Command;
@@ -9,11 +12,9 @@ use model::Edit;
 use model::Facts;
 use model::Item;
 use model::Offered;
-use model::Question;
 use model::Right;
 use model::SubjectSet;
 use model::Typed;
-use model::Within;
 use model::judge;
 ghost use mathlib.Core.Path.{_≡_};
 ghost use Prim.Native.Nat.{_+_, _*_, _%_, _<_};
@@ -254,14 +255,10 @@ fn settle(image: &mut [u64], t: Typed) -> Answer
 fn run(image: &mut [u64], c: Command) -> Answer
     ensures { λ r. ⌜ Ran (flatUnit lists) (now (image .entry)) c r (now (image .exit)) ⌝ }
 {
-    let a = order(image);
-    if a.number() != 0 {
-        return a;
-    }
-    let w = c.within();
-    match w {
-        Within::Beyond => Answer::OutOfRange,
-        Within::Typed(t) => settle(image, t),
+    let a = admit::command(order(image), c);
+    match a {
+        CommandAdmission::Refused(r) => r,
+        CommandAdmission::Ready(t) => settle(image, t),
     }
 }
 
@@ -312,14 +309,10 @@ pub fn offer(image: &mut [u64], c: Command) -> Offered
 pub fn check(image: &[u64], who: u32, on: u32, right: u32) -> Checked
     ensures { λ r. ⌜ Checks lists (now (image .entry)) who on right r (now (image .exit)) ⌝ }
 {
-    let a = order(image);
-    if a.number() != 0 {
-        return Checked::Refused(a);
-    }
-    let q = Question::read(who, on, right);
-    match q {
-        Question::Beyond => Checked::Refused(Answer::OutOfRange),
-        Question::Asked {
+    let a = admit::check(order(image), who, on, right);
+    match a {
+        CheckAdmission::Refused(r) => Checked::Refused(r),
+        CheckAdmission::Ready {
             who: p,
             on: i,
             right: r,

@@ -26,8 +26,10 @@ high-zero w =
     (λ t. eq-eqb (w / 16777216) 0 (omega (arith, ltb-true w 16777216 t)) ∙ sym t)
     (λ t. ne-eqb (w / 16777216) 0 (λ (z : w / 16777216 ≡ 0). omega (arith, ltb-false w 16777216 t)) ∙ sym t)
 
-pub names-zero : (d : List ℕ) (p i q : ℕ) → eqb (bitOr (bitOr (getD d p 0) (getD d i 0)) (getD d q 0)) 0 ≡ unmasked d p && unmasked d i && unmasked d q
-names-zero d p i q = or-zero (bitOr (getD d p 0) (getD d i 0)) (getD d q 0) ∙ ap (λ b. b && unmasked d q) (or-zero (getD d p 0) (getD d i 0))
+pub names-zero : (d : List ℕ) (p i q : ℕ)
+    → eqb (bitOr (bitOr (getD d p 0) (getD d i 0)) (getD d q 0)) 0 ≡ unmasked d p && unmasked d i && unmasked d q
+names-zero d p i q =
+    or-zero (bitOr (getD d p 0) (getD d i 0)) (getD d q 0) ∙ ap (λ b. b && unmasked d q) (or-zero (getD d p 0) (getD d i 0))
 
 -- ---- a word put among rising ones, behind those below it
 keep-none : (x y : ℕ) (s : List ℕ) → x ≤ y → all (ltb y) s ≡ true → keep (λ w. ltb w x) s ≡ []
@@ -43,7 +45,8 @@ unfolding insert rising any keep
 insert-at x [] k h a e = rw e
 insert-at x (y ∷ ys) k h a e =
     by-cases (ltb y x)
-    (λ t. rw (e, t) (ap (λ (l : List ℕ). y ∷ l) (insert-at x ys _ (snd (all (ltb y) ys) (rising ys) h) (no-or (eqb x y) (any (eqb x) ys) a .1) refl)))
+    (λ t. rw (e, t) (ap (λ (l : List ℕ). y ∷ l)
+    (insert-at x ys _ (snd (all (ltb y) ys) (rising ys) h) (no-or (eqb x y) (any (eqb x) ys) a .1) refl)))
     (λ t. let n : y ≡ x → ⊥ = λ q. eqb-false x y (no-or (eqb x y) (any (eqb x) ys) a .0) (sym q) in
     rw (e, t, ne-eqb y x n, keep-none x y ys (ltb-false y x t) (fst (all (ltb y) ys) (rising ys) h)))
   where
@@ -58,18 +61,22 @@ sifted s part x k last h a e l q =
     let n : length (drop k s) ≡ length s - k = length-drop k s in
     let d : take (length s - k) (drop k s) ≡ drop k s = take-all (length s - k) (drop k s) (omega arith) in
     let z : drop (length s - k) (drop k s) ≡ [] = drop-of-length-le (drop k s) {i = length s - k} (omega arith) in
-    rw (z, append-nil part) (append-assoc (take k s) part (last ∷ []) ∙ ap (λ (r : List ℕ). take k s ++ r) (q ∙ ap (λ (r : List ℕ). x ∷ r) d) ∙ sym (insert-at x s k h a e))
+    rw (z, append-nil part) (append-assoc (take k s) part (last ∷ [])
+    ∙ ap (λ (r : List ℕ). take k s ++ r) (q ∙ ap (λ (r : List ℕ). x ∷ r) d) ∙ sym (insert-at x s k h a e))
 
 -- a turn of the loop that counts
-pub rank-more : (p : ℕ → Bool) (s : List ℕ) (n i d : ℕ) → i < length s → length (keep p s) ≡ n + length (keep p (drop i s)) → d ≡ cond (p (getD s i 0)) 1 0
+pub rank-more : (p : ℕ → Bool) (s : List ℕ) (n i d : ℕ) → i < length s → length (keep p s) ≡ n + length (keep p (drop i s))
+    → d ≡ cond (p (getD s i 0)) 1 0
     → length (keep p s) ≡ n + d + length (keep p (drop (i + 1) s))
 rank-more p s n i d l e q = e ∙ rw (keep-next p s i 0 l, q) (go (p (getD s i 0)))
   where
-    go : (b : Bool) → n + length (cond b (getD s i 0 ∷ keep p (drop (i + 1) s)) (keep p (drop (i + 1) s))) ≡ n + cond b 1 0 + length (keep p (drop (i + 1) s))
+    go : (b : Bool) → n + length (cond b (getD s i 0 ∷ keep p (drop (i + 1) s)) (keep p (drop (i + 1) s))) ≡ n + cond b 1 0 + length
+        (keep p (drop (i + 1) s))
     go true = omega arith
     go false = omega arith
 
-pub rank-end : (p : ℕ → Bool) (s : List ℕ) (n i : ℕ) → length s ≤ i → length (keep p s) ≡ n + length (keep p (drop i s)) → n ≡ length (keep p s)
+pub rank-end : (p : ℕ → Bool) (s : List ℕ) (n i : ℕ) → length s ≤ i → length (keep p s) ≡ n + length (keep p (drop i s))
+    → n ≡ length (keep p s)
 unfolding keep
 rank-end p s n i l e = sym (e ∙ rw (drop-of-length-le s {i = i} l) (add-zero n))
 
@@ -91,7 +98,8 @@ push-more old word s hold i k h =
           (sym (append-snoc (take i s) hold (getD s i 0 ∷ drop (suc i) s)));
     }
 
-pub push-end : (old : List ℕ) (word : ℕ) (s : List ℕ) (hold i : ℕ) → Pushed old word s hold i → length old ≤ i → s ++ (hold ∷ []) ≡ word ∷ old
+pub push-end : (old : List ℕ) (word : ℕ) (s : List ℕ) (hold i : ℕ) → Pushed old word s hold i → length old ≤ i
+    → s ++ (hold ∷ []) ≡ word ∷ old
 push-end old word s hold i k h =
     sym (k .whole ∙ rw (drop-of-length-le s {i = i} (omega (arith, k .long)), take-all i s (omega (arith, k .long))))
 
@@ -120,9 +128,13 @@ pack-more p old s place i k e h q =
     l = omega (arith, e .long)
 
     go : (b : Bool) → p x ≡ b → k ≡ cond b 1 0
-        → (k ≤ 1) × (take place s ++ cond (p x) (x ∷ keep p (drop (suc i) s)) (keep p (drop (suc i) s)) ≡ take (place + k) (set s place x) ++ keep p (drop (suc i) s))
-    go true t q =
-        (omega arith, rw (t, q, add-one place, take-suc-set s place x (omega (arith, e .behind))) (sym (append-snoc (take place s) x (keep p (drop (suc i) s)))))
+        → (k ≤ 1) × (take place s ++ cond (p x) (x ∷ keep p (drop (suc i) s)) (keep p (drop (suc i) s)) ≡ take (place + k)
+        (set s place x) ++ keep p (drop (suc i) s))
+    go true t q = (
+      omega arith,
+      rw (t, q, add-one place, take-suc-set s place x (omega (arith, e .behind)))
+          (sym (append-snoc (take place s) x (keep p (drop (suc i) s)))),
+    )
     go false t q = (omega arith, rw (t, q, add-zero place, take-set-le place s place x (omega arith)))
 
 pub pack-end : (p : ℕ → Bool) (old s : List ℕ) (place i : ℕ) → Packed p old s place i → length old ≤ i → take place s ≡ keep p old

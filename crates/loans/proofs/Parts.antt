@@ -27,9 +27,11 @@ module _ (t : List ℕ) (n : ℕ) (e : n ≡ min (countOf t) (length t - 1)) whe
   pub part-used : take (n + 1 - 1) (drop 1 t) ≡ used t
   unfolding used
   part-used =
-      by-cases (leb (countOf t) (length t - 1)) (λ h. let q : n + 1 - 1 ≡ countOf t = omega (arith, leb-true (countOf t) (length t - 1) h) in rw q)
+      by-cases (leb (countOf t) (length t - 1))
+      (λ h. let q : n + 1 - 1 ≡ countOf t = omega (arith, leb-true (countOf t) (length t - 1) h) in rw q)
       (λ h. let z = leb-false (countOf t) (length t - 1) h in
-      take-all (n + 1 - 1) (drop 1 t) (simp length-drop (omega arith)) ∙ sym (take-all (countOf t) (drop 1 t) (simp length-drop (omega arith))))
+      take-all (n + 1 - 1) (drop 1 t) (simp length-drop (omega arith))
+      ∙ sym (take-all (countOf t) (drop 1 t) (simp length-drop (omega arith))))
 
   pub used-none : n ≡ 0 → used t ≡ []
   used-none z = sym part-used ∙ rw z
@@ -104,9 +106,11 @@ pub order-parts : (live : ℕ → Bool) (t : List ℕ) (n : ℕ) → length t �
     && all (eqb 0) (take (length t - (n + 1)) (drop (n + 1) t))
 unfolding loansInOrder
 order-parts live t n l few e =
-    let z : take (length t - (n + 1)) (drop (n + 1) t) ≡ drop (n + 1) t = take-all (length t - (n + 1)) (drop (n + 1) t) (simp length-drop (omega arith)) in
+    let z : take (length t - (n + 1)) (drop (n + 1) t) ≡ drop (n + 1) t = take-all (length t - (n + 1)) (drop (n + 1) t)
+    (simp length-drop (omega arith)) in
     let q : n + 1 ≡ suc (countOf t) = omega arith in
     let g : all (wordGood live) (used t) ≡ all shaped (used t) && all (namesLive live) (used t)
     = (λ j. all (λ w. good-split live w j) (used t)) ∙ all-and shaped (namesLive live) (used t) in
     rw (eq-eqb (length t) loanWords l, le-leb (countOf t) mostLoans few, part-used t n e, z, q, g)
-    (ap (λ b. b && all (eqb 0) (drop (suc (countOf t)) t)) (sym (and-assoc (rising (used t)) (all shaped (used t)) (all (namesLive live) (used t)))))
+    (ap (λ b. b && all (eqb 0) (drop (suc (countOf t)) t))
+    (sym (and-assoc (rising (used t)) (all shaped (used t)) (all (namesLive live) (used t)))))

@@ -18,9 +18,11 @@ pub ordered : (live : ℕ → Bool) (t : List ℕ) → length t ≡ loanWords �
 ordered live t l h = let o = order-image live t l h in record { long = l; rises = o .1; whole = o .2 }
 
 -- the test of order by a mask of the live items, as the masks of a unit are made
-pub masked : (live : ℕ → Bool) (d t : List ℕ) → ((i : ℕ) → i < 64 → getD d i 0 ≡ cond (live i) 0 255) → loansInOrder (unmasked d) t ≡ loansInOrder live t
+pub masked : (live : ℕ → Bool) (d t : List ℕ) → ((i : ℕ) → i < 64 → getD d i 0 ≡ cond (live i) 0 255)
+    → loansInOrder (unmasked d) t ≡ loansInOrder live t
 unfolding loansInOrder
-masked live d t m = λ j. leb (countOf t) mostLoans && rising (used t) && all (λ w. good w j) (used t) && all (eqb 0) (drop (suc (countOf t)) t)
+masked live d t m =
+    λ j. leb (countOf t) mostLoans && rising (used t) && all (λ w. good w j) (used t) && all (eqb 0) (drop (suc (countOf t)) t)
   where
     one : (i : ℕ) → i < 64 → unmasked d i ≡ live i
     one i l = ap (λ (x : ℕ). eqb x 0) (m i l) ∙ zero (live i)

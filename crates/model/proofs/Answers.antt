@@ -58,13 +58,16 @@ table-known f a =
     (known-row (knows (a .verb) 7 && eqb (a .on) 0) 7 _ (record { answer = is.RootItem; number = refl })
     (known-row (knows (a .verb) 8 && not (f .edits)) 8 _ (record { answer = is.NoEdit; number = refl })
     (known-row (knows (a .verb) 9 && eqb (a .right) 0) 9 _ (record { answer = is.EditRight; number = refl })
-    (known-row (knows (a .verb) 10 && f .full) 10 _ (record { answer = is.Full; number = refl }) (record { answer = is.Done; number = refl })))))))
+    (known-row (knows (a .verb) 10 && f .full) 10 _ (record { answer = is.Full; number = refl })
+    (record { answer = is.Done; number = refl })))))))
 
 pub answer-known : (f : Facts) (a : Arguments) → Known (answer f a)
 answer-known f a = known-row (not (fits a)) 3 _ (record { answer = is.OutOfRange; number = refl }) (table-known f a)
 
 pub asked-known : (p o r : ℕ) → Known (asked p o r)
-asked-known p o r = known-row (not (items p o && rightDepth r 0)) 3 0 (record { answer = is.OutOfRange; number = refl }) (record { answer = is.Done; number = refl })
+asked-known p o r =
+    known-row (not (items p o && rightDepth r 0)) 3 0 (record { answer = is.OutOfRange; number = refl })
+    (record { answer = is.Done; number = refl })
 
 -- ---- checks
 -- a refusal
@@ -104,7 +107,8 @@ found-said f h = go (f .yes) refl
   where
     go : (b : Bool) → f .yes ≡ b → foundIn (cond b (chain.Yes (record { 0 = f .depth }) (f .persons)) chain.No) ≡ f
     go true e =
-        let k : _≡_ {A = Found} (record { yes = true; depth = f .depth; persons = f .persons }) (record { yes = f .yes; depth = f .depth; persons = f .persons }) = rw e in
+        let k : _≡_ {A = Found} (record { yes = true; depth = f .depth; persons = f .persons })
+        (record { yes = f .yes; depth = f .depth; persons = f .persons }) = rw e in
         k
     go false e = sym (h e)
 

@@ -16,6 +16,7 @@ use Rattle.model.specs.declared.Arguments.{Arguments}
 use Rattle.model.specs.declared.Facts.{Facts}
 use mathlib.Core.List.{List, [], _∷_}
 use lib.ListN.{length}
+use Rattle.model.specs.Invariant.{sound, Inv, rangedLoan, soundLoan, distinct, LoanInv}
 
 pub eqb-sym : (a b : ℕ) → eqb a b ≡ eqb b a
 eqb-sym a b = iff (eqb a b) (eqb b a) (λ e. eq-eqb b a (sym (eqb-true a b e))) (λ e. eq-eqb a b (sym (eqb-true b a e)))
@@ -41,7 +42,8 @@ same-loan l m e =
     let c : l .right ≡ m .right = search (fst, snd, eqb-true) in
     let d : l .borrower ≡ m .borrower = search (fst, snd, eqb-true) in
     let f : l .depth ≡ m .depth = search (fst, snd, eqb-true) in
-    let r : loan (l .lender) (l .item) (l .right) (l .borrower) (l .depth) ≡ loan (m .lender) (m .item) (m .right) (m .borrower) (m .depth) = cc in
+    let r : loan (l .lender) (l .item) (l .right) (l .borrower) (l .depth) ≡ loan (m .lender) (m .item) (m .right) (m .borrower)
+    (m .depth) = cc in
     r
 
 pub eqb-self : (n : ℕ) → eqb n n ≡ true
@@ -105,20 +107,6 @@ lives-delete j by on i =
     any-kept (eqb i) (λ x. not (eqb x on)) (λ x. true) (not (eqb i on)) (j .live) (all-true (j .live))
     (λ x h e. ap (λ (n : ℕ). not (eqb n on)) (sym (eqb-true i x e)))
 
--- ---- the invariant
-abbrev pub ranged : Grant → Bool
-ranged g = items (g .person) (g .item) && rightDepth (g .right) (g .depth)
-
-abbrev pub rangedLoan : Loan → Bool
-rangedLoan l = items (l .lender) (l .borrower) && items (l .borrower) (l .item) && rightDepth (l .right) (l .depth)
-
-abbrev pub sound : (ℕ → Bool) → Grant → Bool
-sound f g = ranged g && (f (g .person) && f (g .item))
-
-pub record Inv (j : Journal) : Type 0 where
-  pub root : lives j 0 ≡ true
-  pub grants-sound : all (sound (lives j)) (j .grants) ≡ true
-
 pub inv-fresh : Inv fresh
 unfolding fresh any all
 inv-fresh = record { root = refl; grants-sound = refl }
@@ -141,19 +129,6 @@ beyond-none j v p o r h =
     let c : items p o && rightDepth r 0 ≡ true = rw (q .0, q .1, q .2) at b in
     absurd (false≢true (sym h ∙ c)))
     (λ t. t)
-
-unfoldable pub distinct : List Loan → Bool
-distinct [] = true
-distinct (l ∷ ls) = not (any (sameLoan l) ls) && distinct ls
-
--- ---- what every journal keeps of its loans
-abbrev pub soundLoan : (ℕ → Bool) → Loan → Bool
-soundLoan f l = rangedLoan l && not (eqb (l .right) 0) && (f (l .lender) && f (l .item) && f (l .borrower))
-
-pub record LoanInv (j : Journal) : Type 0 where
-  pub loans-sound : all (soundLoan (lives j)) (j .loans) ≡ true
-  pub loans-distinct : distinct (j .loans) ≡ true
-  pub loans-few : length (j .loans) ≤ 1024
 
 pub loans-ranged : (j : Journal) → LoanInv j → all rangedLoan (j .loans) ≡ true
 loans-ranged j v = all-mono (soundLoan (lives j)) rangedLoan (j .loans) (v .loans-sound) (λ l h. search (fst, snd))
@@ -200,11 +175,18 @@ length-keep f (l ∷ ls) = go (f l) (length-keep f ls)
     go false k = omega arith
 
 pub keep-loans : (j : Journal) (f : Loan → Bool) → LoanInv j
-    → (all (λ l. soundLoan (lives j) l && f l) (keep f (j .loans)) ≡ true) × (distinct (keep f (j .loans)) ≡ true) × (length (keep f (j .loans)) ≤ 1024)
-keep-loans j f v = (all-keep (soundLoan (lives j)) f (j .loans) (v .loans-sound), distinct-keep f (j .loans) (v .loans-distinct), omega (arith, length-keep f (j .loans), v .loans-few))
+    → (all (λ l. soundLoan (lives j) l && f l) (keep f (j .loans)) ≡ true) × (distinct (keep f (j .loans)) ≡ true)
+    × (length (keep f (j .loans)) ≤ 1024)
+keep-loans j f v = (
+  all-keep (soundLoan (lives j)) f (j .loans) (v .loans-sound),
+  distinct-keep f (j .loans) (v .loans-distinct),
+  omega
+      (arith, length-keep f (j .loans), v .loans-few),
+)
 
 -- one more fits where fewer than 1,024 stand
-pub few-add : (l : Loan) (ls : List Loan) → length ls ≤ 1024 → leb 1024 (length ls) && not (any (sameLoan l) ls) ≡ false → length (add sameLoan l ls) ≤ 1024
+pub few-add : (l : Loan) (ls : List Loan) → length ls ≤ 1024 → leb 1024 (length ls) && not (any (sameLoan l) ls) ≡ false
+    → length (add sameLoan l ls) ≤ 1024
 unfolding add
 few-add l ls h e = go (any (sameLoan l) ls) (leb 1024 (length ls)) refl e
   where

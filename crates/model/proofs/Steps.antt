@@ -13,7 +13,8 @@ use Rattle.model.specs.Commands.{items, rightDepth, argumentsOf, fits}
 use Rattle.model.specs.Answers.{knows, flat}
 use Rattle.model.specs.Journal.{Journal, grant, loan, sameGrant, sameLoan, isTo, names, loanNames, lives, facts, answered, fresh, apply, step, run}
 use Rattle.bits.proofs.Sets.{fst, snd, both, or-left, or-right, all-mono, all-keep, all-add}
-use Rattle.model.proofs.Invariant.{eqb-sym, neither, accepted, both-live, lives-create, lives-delete, ranged, sound, Inv, inv-fresh, grow, rangedLoan, soundLoan, LoanInv, loans-fresh, keep-loans, few-add, grow-loan, distinct-add}
+use Rattle.model.proofs.Invariant.{eqb-sym, neither, accepted, both-live, lives-create, lives-delete, inv-fresh, grow, loans-fresh, keep-loans, few-add, grow-loan, distinct-add}
+use Rattle.model.specs.Invariant.{ranged, sound, Inv, rangedLoan, soundLoan, LoanInv, Kept, Alike}
 
 -- ---- what every journal keeps of its live items and grants
 inv-apply : (j : Journal) (c : Command) → Inv j → answered j c ≡ 0 → Inv (apply j c)
@@ -27,7 +28,8 @@ inv-apply j (Create by on) v e =
       grants-sound =
           all-add (sound (lives (apply j (Create by on)))) sameGrant (grant by on 0 0) (j .grants)
           (both (both r refl) (both (up by (k .by)) (lives-create j by on on ∙ or-left (eqb on on) (lives j on) (eq-eqb on on refl))))
-          (all-mono (sound (lives j)) (sound (lives (apply j (Create by on)))) (j .grants) (v .grants-sound) (grow (lives j) (lives (apply j (Create by on))) up));
+          (all-mono (sound (lives j)) (sound (lives (apply j (Create by on)))) (j .grants) (v .grants-sound)
+          (grow (lives j) (lives (apply j (Create by on))) up));
     }
 inv-apply j (Delete by on) v e =
     let k = accepted (facts j (argumentsOf (Delete by on))) (argumentsOf (Delete by on)) e in
@@ -36,7 +38,8 @@ inv-apply j (Delete by on) v e =
     record {
       root = low 0 (eqb-sym 0 on ∙ k .root) (v .root);
       grants-sound =
-          all-mono _ (sound (lives (apply j (Delete by on)))) _ (all-keep (sound (lives j)) (λ g. not (names on g)) (j .grants) (v .grants-sound))
+          all-mono _ (sound (lives (apply j (Delete by on)))) _
+          (all-keep (sound (lives j)) (λ g. not (names on g)) (j .grants) (v .grants-sound))
           (λ g h. let n = neither (eqb (g .person) on) (eqb (g .item) on) (snd (sound (lives j) g) _ h) in
           let a : ranged g ≡ true = search (fst, snd) in
           let b : lives j (g .person) ≡ true = search (fst, snd) in
@@ -49,7 +52,8 @@ inv-apply j (Allow by to on right depth) v e =
     let l = both-live (lives j on) (lives j to) (k .named) in
     record {
       root = v .root;
-      grants-sound = all-add (sound (lives j)) sameGrant (grant to on right depth) (j .grants) (both r (both (l .1) (l .0))) (v .grants-sound);
+      grants-sound =
+          all-add (sound (lives j)) sameGrant (grant to on right depth) (j .grants) (both r (both (l .1) (l .0))) (v .grants-sound);
     }
 inv-apply j (Withdraw by to on right) v e =
     record {
@@ -86,7 +90,8 @@ loans-apply j (Delete by on) v e =
           (λ l h. let n = neither (eqb (l .lender) on || eqb (l .item) on) (eqb (l .borrower) on) (snd (soundLoan (lives j) l) _ h) in
           let m = neither (eqb (l .lender) on) (eqb (l .item) on) (ap not (n .0)) in
           let s : soundLoan (lives j) l ≡ true = fst (soundLoan (lives j) l) (not (loanNames on l)) h in
-          let a : rangedLoan l && not (eqb (l .right) 0) ≡ true = fst _ (lives j (l .lender) && lives j (l .item) && lives j (l .borrower)) s in
+          let a : rangedLoan l && not (eqb (l .right) 0) ≡ true = fst _
+          (lives j (l .lender) && lives j (l .item) && lives j (l .borrower)) s in
           let b : lives j (l .lender) ≡ true = search (fst, snd) in
           let c : lives j (l .item) ≡ true = search (fst, snd) in
           let d : lives j (l .borrower) ≡ true = search (fst, snd) in
@@ -102,14 +107,17 @@ loans-apply j (Lend by to on right depth) v e =
     let k = accepted (facts j (argumentsOf (Lend by to on right depth))) (argumentsOf (Lend by to on right depth)) e in
     let l = both-live (lives j on) (lives j to) (k .named) in
     record {
-      loans-sound = all-add (soundLoan (lives j)) sameLoan (loan by on right to depth) (j .loans) (both (both (k .fits) (ap not (k .right))) (both (both (k .by) (l .0)) (l .1))) (v .loans-sound);
+      loans-sound =
+          all-add (soundLoan (lives j)) sameLoan (loan by on right to depth) (j .loans)
+          (both (both (k .fits) (ap not (k .right))) (both (both (k .by) (l .0)) (l .1))) (v .loans-sound);
       loans-distinct = distinct-add (loan by on right to depth) (j .loans) (v .loans-distinct);
       loans-few = few-add (loan by on right to depth) (j .loans) (v .loans-few) (k .full);
     }
 loans-apply j (Recall by to on right depth) v e =
     let k = keep-loans j (λ l. not (sameLoan (loan by on right to depth) l)) v in
     record {
-      loans-sound = all-mono _ (soundLoan (lives j)) _ (k .0) (λ l h. fst (soundLoan (lives j) l) (not (sameLoan (loan by on right to depth) l)) h);
+      loans-sound =
+          all-mono _ (soundLoan (lives j)) _ (k .0) (λ l h. fst (soundLoan (lives j) l) (not (sameLoan (loan by on right to depth) l)) h);
       loans-distinct = k .1;
       loans-few = k .2;
     }
@@ -120,10 +128,6 @@ loans-step j c v = go (eqb (answered j c) 0) refl
     go : (b : Bool) → eqb (answered j c) 0 ≡ b → LoanInv (cond b (apply j c) j)
     go true e = loans-apply j c v (eqb-true _ _ e)
     go false e = v
-
-pub record Kept (j : Journal) : Type 0 where
-  pub inv : Inv j
-  pub loan-inv : LoanInv j
 
 pub kept-fresh : Kept fresh
 kept-fresh = record { inv = inv-fresh; loan-inv = loans-fresh }
@@ -144,11 +148,6 @@ flat-lends (Allow by to on right depth) h = refl
 flat-lends (Withdraw by to on right) h = refl
 flat-lends (Lend by to on right depth) h = absurd (false≢true h)
 flat-lends (Recall by to on right depth) h = refl
-
--- ---- the whole journal j and one that is fed only what lists and rows have, k: alike in live items and grants
-pub record Alike (j k : Journal) : Type 0 where
-  pub live : j .live ≡ k .live
-  pub grants : j .grants ≡ k .grants
 
 -- what lists and rows lack leaves both alone
 pub alike-apply : {j k : Journal} → Alike j k → (c : Command) → Alike (apply j c) (cond (flat c) (apply k c) k)

@@ -58,12 +58,13 @@ answerFor n =
 abbrev pub Numbered : Answer → ℕ → Type 0
 Numbered r n = (numberOf r ≡ n) × (r ≡ answerFor n)
 
--- ---- a check: its number, and whether it says yes
+-- ---- a check: its number
 abbrev pub checkedNumber : Checked → ℕ
 checkedNumber checked.Yes = 0
 checkedNumber checked.No = 0
 checkedNumber (checked.Refused a) = numberOf a
 
+-- whether it says yes
 abbrev pub checkedYes : Checked → Bool
 checkedYes checked.Yes = true
 checkedYes checked.No = false
@@ -90,6 +91,7 @@ chainNumber (chain.Yes d n) = 0
 chainNumber chain.No = 0
 chainNumber (chain.Refused a) = numberOf a
 
+-- what its answer tells: a yes with its values, else nothing
 abbrev pub foundIn : ChainChecked → Found
 foundIn (chain.Yes d n) = record { yes = true; depth = d .0; persons = n }
 foundIn chain.No = nothing

@@ -13,6 +13,10 @@ use Rattle.model.specs.declared.Arguments.{Arguments}
 use Rattle.model.specs.declared.Typed.{Typed}
 use Rattle.model.specs.declared.Within.{Within}
 use Rattle.model.specs.declared.Within.the-variants as within
+use Rattle.model.specs.declared.ItemRead.{ItemRead}
+use Rattle.model.specs.declared.ItemRead.the-variants as itemRead
+use Rattle.model.specs.declared.RightRead.{RightRead}
+use Rattle.model.specs.declared.RightRead.the-variants as rightRead
 use Rattle.model.specs.declared.DepthRead.{DepthRead}
 use Rattle.model.specs.declared.DepthRead.the-variants as depthRead
 use Rattle.model.specs.declared.Question.{Question}
@@ -22,6 +26,7 @@ use Rattle.model.specs.declared.Question.the-variants as question
 abbrev pub arguments : Verb → Edit → ℕ → ℕ → ℕ → ℕ → ℕ → Arguments
 arguments v e by to on right depth = record { verb = v; edit = e; by = by; to = to; on = on; right = right; depth = depth }
 
+-- each command's arguments, in the order in which the paper names them
 abbrev pub argumentsOf : Command → Arguments
 argumentsOf (Create by on) = arguments verb.Create edit.Create by on on 0 0
 argumentsOf (Delete by on) = arguments verb.Delete edit.Delete by on on 0 0
@@ -77,7 +82,17 @@ withinOf a = cond (fits a) (within.Typed (typedOf a)) within.Beyond
 
 -- the arguments of a check; number 3 is `Beyond`
 abbrev pub questionOf : ℕ → ℕ → ℕ → Question
-questionOf who on right = cond (items who on && rightDepth right 0) (question.Asked (record { 0 = who }) (record { 0 = on }) (record { 0 = right })) question.Beyond
+questionOf who on right =
+    cond (items who on && rightDepth right 0) (question.Asked (record { 0 = who }) (record { 0 = on }) (record { 0 = right }))
+    question.Beyond
+
+-- a number as an item
+abbrev pub itemOf : ℕ → ItemRead
+itemOf n = cond (leb n 63) (itemRead.Within (record { 0 = n })) itemRead.Beyond
+
+-- a number as a right
+abbrev pub rightOf : ℕ → RightRead
+rightOf n = cond (leb n 7) (rightRead.Within (record { 0 = n })) rightRead.Beyond
 
 -- a number as a depth
 abbrev pub depthOf : ℕ → DepthRead

@@ -29,14 +29,17 @@ pub record Loan : Type 0 where
   pub borrower : ℕ
   pub depth : ℕ
 
+-- 'a plain machine': live items, grants and loans
 pub record Journal : Type 0 where
   pub live : List ℕ
   pub grants : List Grant
   pub loans : List Loan
 
+-- a grant of its parts
 abbrev pub grant : ℕ → ℕ → ℕ → ℕ → Grant
 grant p o r d = record { person = p; item = o; right = r; depth = d }
 
+-- a loan of its parts
 abbrev pub loan : ℕ → ℕ → ℕ → ℕ → ℕ → Loan
 loan p o r q d = record { lender = p; item = o; right = r; borrower = q; depth = d }
 
@@ -44,6 +47,7 @@ loan p o r q d = record { lender = p; item = o; right = r; borrower = q; depth =
 abbrev pub sameGrant : Grant → Grant → Bool
 sameGrant g h = eqb (g .person) (h .person) && eqb (g .item) (h .item) && eqb (g .right) (h .right) && eqb (g .depth) (h .depth)
 
+-- two loans are one: all their numbers are equal
 abbrev pub sameLoan : Loan → Loan → Bool
 sameLoan l m =
     eqb (l .lender) (m .lender) && eqb (l .item) (m .item) && eqb (l .right) (m .right) && eqb (l .borrower) (m .borrower)
@@ -69,6 +73,7 @@ lives j i = any (eqb i) (j .live)
 abbrev pub hasGrant : Journal → ℕ → ℕ → ℕ → Bool
 hasGrant j p o r = any (isTo p o r) (j .grants)
 
+-- that grant stands
 abbrev pub standing : Journal → Grant → Bool
 standing j g = any (sameGrant g) (j .grants)
 
@@ -127,6 +132,7 @@ apply j (Recall by to on right depth) =
 abbrev pub step : Journal → Command → Journal
 step j c = cond (eqb (answered j c) 0) (apply j c) j
 
+-- the journal after a list of commands
 abbrev pub run : Journal → List Command → Journal
 run j [] = j
 run j (c ∷ cs) = run (step j c) cs

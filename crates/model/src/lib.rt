@@ -1,7 +1,6 @@
 // Items, rights and depths, the commands that carry them, and the one table of refusals.
 ghost use mathlib.Core.Path.{_≡_};
-ghost use Prim.Native.Nat.{_%_};
-ghost use Rattle.model.specs.Commands.{items, rightDepth, arguments, argumentsOf, fits, typedOf, withinOf, rawOf, questionOf, depthOf};
+ghost use Rattle.model.specs.Commands.{items, rightDepth, arguments, argumentsOf, fits, typedOf, withinOf, rawOf, questionOf, itemOf, rightOf, depthOf};
 ghost use Rattle.model.specs.Answers.{numberOf, answerFor, checkedOf, flatEdit, flat, knows, table, _when_else_};
 
 // An item number, 0 to 63.
@@ -16,11 +15,14 @@ pub struct Depth(u32);
 impl Item {
     pub const MAX: u32 = 63;
 
-    // The one in the lowest bits of n, where a word holds it: n cut to its width.
-    pub fn cut(n: u32) -> Item
-        ensures { λ r. ⌜ r .0 ≡ n % 64 ⌝ }
+    // The range check of one number.
+    pub fn read(n: u32) -> ItemRead
+        ensures { λ r. ⌜ r ≡ itemOf n ⌝ }
     {
-        Item(n % 64)
+        if n > Item::MAX {
+            return ItemRead::Beyond;
+        }
+        ItemRead::Within(Item(n))
     }
 
     // Item 0 (document 01's 'the house').
@@ -40,11 +42,14 @@ impl Item {
 impl Right {
     pub const MAX: u32 = 7;
 
-    // The one in the lowest bits of n, where a word holds it: n cut to its width.
-    pub fn cut(n: u32) -> Right
-        ensures { λ r. ⌜ r .0 ≡ n % 8 ⌝ }
+    // The range check of one number.
+    pub fn read(n: u32) -> RightRead
+        ensures { λ r. ⌜ r ≡ rightOf n ⌝ }
     {
-        Right(n % 8)
+        if n > Right::MAX {
+            return RightRead::Beyond;
+        }
+        RightRead::Within(Right(n))
     }
 
     // The right to edit an item's grants.
@@ -63,13 +68,6 @@ impl Right {
 
 impl Depth {
     pub const MAX: u32 = 7;
-
-    // The one in the lowest bits of n, where a word holds it: n cut to its width.
-    pub fn cut(n: u32) -> Depth
-        ensures { λ r. ⌜ r .0 ≡ n % 8 ⌝ }
-    {
-        Depth(n % 8)
-    }
 
     // The range check of one number.
     pub fn read(n: u32) -> DepthRead
@@ -93,6 +91,18 @@ impl Depth {
     {
         self.0
     }
+}
+
+// What a number is as an item.
+pub enum ItemRead {
+    Within(Item),
+    Beyond,
+}
+
+// What a number is as a right.
+pub enum RightRead {
+    Within(Right),
+    Beyond,
 }
 
 // What a number is as a depth.

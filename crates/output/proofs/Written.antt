@@ -47,9 +47,11 @@ more-append : (ps : List ℕ) (q : ℕ) → morePersons (ps ++ (q ∷ [])) ≡ m
 unfolding morePersons
 more-append [] q = ap (λ (l : List ℕ). bytes "," ++ l) (append-nil (shown q))
 more-append (p ∷ ps) q =
-    ap (λ (l : List ℕ). bytes "," ++ (shown p ++ l)) (more-append ps q) ∙ ap (λ (l : List ℕ). bytes "," ++ l) (sym (append-assoc (shown p) (morePersons ps) (bytes "," ++ shown q)))
+    ap (λ (l : List ℕ). bytes "," ++ (shown p ++ l)) (more-append ps q)
+    ∙ ap (λ (l : List ℕ). bytes "," ++ l) (sym (append-assoc (shown p) (morePersons ps) (bytes "," ++ shown q)))
 
-pub more-next : (s : List ℕ) (i : ℕ) → i < length s → morePersons (take (i + 1) s) ≡ morePersons (take i s) ++ (bytes "," ++ shown (getD s i 0))
+pub more-next : (s : List ℕ) (i : ℕ) → i < length s
+    → morePersons (take (i + 1) s) ≡ morePersons (take i s) ++ (bytes "," ++ shown (getD s i 0))
 more-next s i h = rw (add-one i, take-suc s i 0) (more-append (take i s) (getD s i 0))
 
 pub persons-none : (s : List ℕ) → length s ≡ 0 → persons s ≡ []
@@ -71,10 +73,12 @@ take-min k n s e =
 
 -- ---- the parts of a line
 pub wrote-units : {b b1 b2 b3 : List ℕ} {at p1 p2 p3 : ℕ} (l r c : Said) → Wrote b at (bytes " list=" ++ saidText l) p1 b1
-    → Wrote b1 p1 (bytes " row=" ++ saidText r) p2 b2 → Wrote b2 p2 (bytes " chain=" ++ saidText c) p3 b3 → Wrote b at (unitsText l r c) p3 b3
+    → Wrote b1 p1 (bytes " row=" ++ saidText r) p2 b2 → Wrote b2 p2 (bytes " chain=" ++ saidText c) p3 b3
+    → Wrote b at (unitsText l r c) p3 b3
 wrote-units l r c w1 w2 w3 = wrote-field (bytes " list=") (saidText l) w1 (wrote-field (bytes " row=") (saidText r) w2 w3)
 
-pub wrote-line : {b b1 b2 b3 b4 : List ℕ} {at p1 p2 p3 p4 : ℕ} (n : ℕ) (r : Reply) (via : List ℕ) → Wrote b at (bytes "line=" ++ shown n) p1 b1
+pub wrote-line : {b b1 b2 b3 b4 : List ℕ} {at p1 p2 p3 p4 : ℕ} (n : ℕ) (r : Reply) (via : List ℕ)
+    → Wrote b at (bytes "line=" ++ shown n) p1 b1
     → Wrote b1 p1 (unitsText (r .list) (r .row) (r .chain)) p2 b2 → Wrote b2 p2 (tailText (r .tail) via) p3 b3 → Wrote b3 p3 newline p4 b4
     → Wrote b at (outputLine n r via) p4 b4
 unfolding outputLine

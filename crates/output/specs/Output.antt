@@ -32,6 +32,7 @@ unfoldable pub morePersons : List ℕ → List ℕ
 morePersons [] = []
 morePersons (p ∷ ps) = bytes "," ++ (shown p ++ morePersons ps)
 
+-- all of them
 unfoldable pub persons : List ℕ → List ℕ
 persons [] = []
 persons (p ∷ ps) = shown p ++ morePersons ps
@@ -54,7 +55,8 @@ newline = 10 ∷ []
 -- line number n, with the three units' fields and what comes after them
 abbrev pub lineText : ℕ → List ℕ → List ℕ → List ℕ → List ℕ → List ℕ
 lineText n list row chain rest =
-    bytes "line=" ++ (shown n ++ (bytes " list=" ++ (list ++ (bytes " row=" ++ (row ++ (bytes " chain=" ++ (chain ++ (rest ++ newline))))))))
+    bytes "line="
+    ++ (shown n ++ (bytes " list=" ++ (list ++ (bytes " row=" ++ (row ++ (bytes " chain=" ++ (chain ++ (rest ++ newline))))))))
 
 -- the three units' fields
 abbrev pub unitsText : Said → Said → Said → List ℕ

@@ -32,7 +32,8 @@ fn put_said(buf: &mut [u8], at: usize, said: Said) -> usize
 // A unit's field with its key.
 fn put_field(buf: &mut [u8], at: usize, key: &[u8], said: Said) -> usize
     requires { ⌜ at + length (now key) + 10 ≤ length (now buf) ⌝ }
-    ensures { λ r. ⌜ Wrote (now (buf .entry)) at (now (key .entry) ++ saidText said) r (now (buf .exit)) × (r ≤ at + length (now (key .entry)) + 10) ⌝ }
+    ensures { λ r. ⌜ Wrote (now (buf .entry)) at (now (key .entry) ++ saidText said) r (now (buf .exit))
+        × (r ≤ at + length (now (key .entry)) + 10) ⌝ }
 {
     let p = put_bytes(buf, at, key);
     put_said(buf, p, said)
@@ -41,7 +42,8 @@ fn put_field(buf: &mut [u8], at: usize, key: &[u8], said: Said) -> usize
 // The number of a line, with its key.
 fn put_count(buf: &mut [u8], at: usize, key: &[u8], n: u64) -> usize
     requires { ⌜ at + length (now key) + 20 ≤ length (now buf) ⌝ }
-    ensures { λ r. ⌜ Wrote (now (buf .entry)) at (now (key .entry) ++ shown n) r (now (buf .exit)) × (r ≤ at + length (now (key .entry)) + 20) ⌝ }
+    ensures { λ r. ⌜ Wrote (now (buf .entry)) at (now (key .entry) ++ shown n) r (now (buf .exit))
+        × (r ≤ at + length (now (key .entry)) + 20) ⌝ }
 {
     let p = put_bytes(buf, at, key);
     put_number(buf, p, n)
@@ -121,7 +123,8 @@ fn put_tail(buf: &mut [u8], at: usize, tail: Tail, via: [u8; 8]) -> usize
 // The three units' fields.
 fn put_units(buf: &mut [u8], at: usize, reply: Reply) -> usize
     requires { ⌜ at + 48 ≤ length (now buf) ⌝ }
-    ensures { λ r. ⌜ Wrote (now (buf .entry)) at (unitsText (reply .list) (reply .row) (reply .chain)) r (now (buf .exit)) × (r ≤ at + 48) ⌝ }
+    ensures { λ r. ⌜ Wrote (now (buf .entry)) at (unitsText (reply .list) (reply .row) (reply .chain)) r (now (buf .exit))
+        × (r ≤ at + 48) ⌝ }
 {
     let list = reply.list;
     let row = reply.row;

@@ -126,7 +126,8 @@ impl Reply {
 
     // To a check.
     pub fn of_check(list: Checked, row: Checked, chain: ChainChecked) -> Reply
-        ensures { λ r. ⌜ r ≡ reply (checkSaid (checkedNumber list) (checkedYes list)) (checkSaid (checkedNumber row) (checkedYes row)) (checkSaid (chainNumber chain) (foundIn chain .yes)) (checkTail (foundIn chain)) ⌝ }
+        ensures { λ r. ⌜ r ≡ reply (checkSaid (checkedNumber list) (checkedYes list)) (checkSaid (checkedNumber row) (checkedYes row))
+            (checkSaid (chainNumber chain) (foundIn chain .yes)) (checkTail (foundIn chain)) ⌝ }
     {
         let l = Said::of_check(list);
         let r = Said::of_check(row);

@@ -125,5 +125,6 @@ reached-here t = record {
 }
 
 -- a run of units that are fresh
-pub ran-fresh : {x u : Units} {buf buf′ : List ℕ} → x ≡ freshUnits → Ran (session 0 x buf nothingHeld) u buf′ → Ran (freshSession buf) u buf′
+pub ran-fresh : {x u : Units} {buf buf′ : List ℕ} → x ≡ freshUnits → Ran (session 0 x buf nothingHeld) u buf′
+    → Ran (freshSession buf) u buf′
 ran-fresh {x} {u} {buf} {buf′} e r = subst (λ y. Ran (session 0 y buf nothingHeld) u buf′) e r

@@ -40,7 +40,8 @@ fn answer(
     p: Progress,
     chunk: &[u8],
 ) -> Turn
-    ensures { λ r. ⌜ Answered (session (p .lines) (unitsIn (now (list .entry)) (now (row .entry)) (now (grants .entry)) (now (loans .entry)))
+    ensures { λ r. ⌜ Answered
+        (session (p .lines) (unitsIn (now (list .entry)) (now (row .entry)) (now (grants .entry)) (now (loans .entry)))
         (now (buf .entry)) (p .held)) (now (chunk .entry))
         (unitsIn (now (list .exit)) (now (row .exit)) (now (grants .exit)) (now (loans .exit))) (now (buf .exit)) r ⌝ }
 {
@@ -71,7 +72,8 @@ fn read_some(
     out: &mut [u8],
     p: Progress,
 ) -> Turn
-    ensures { λ r. ⌜ ReadOnce (session (p .lines) (unitsIn (now (list .entry)) (now (row .entry)) (now (grants .entry)) (now (loans .entry)))
+    ensures { λ r. ⌜ ReadOnce
+        (session (p .lines) (unitsIn (now (list .entry)) (now (row .entry)) (now (grants .entry)) (now (loans .entry)))
         (now (buf .entry)) (p .held))
         (unitsIn (now (list .exit)) (now (row .exit)) (now (grants .exit)) (now (loans .exit))) (now (buf .exit)) r ⌝ }
 {

@@ -44,7 +44,9 @@ module _ (u : Units) where
   unfolding replyOf viaOf unitsAfter
   command-replies c l r a x y g t s hl hr hc e =
       record {
-        reply = e ∙ (λ i. reply (offered-said lists (u .lists) c l x hl i) (offered-said rows (u .rows) c r y hr i) (Number (hc .0 .0 i)) Nothing);
+        reply =
+            e ∙ (λ i. reply (offered-said lists (u .lists) c l x hl i) (offered-said rows (u .rows) c r y hr i)
+            (Number (hc .0 .0 i)) Nothing);
         buffer = refl;
         units = λ i. record { lists = hl .1 i; rows = hr .1 i; chains = hc .1 i };
       }
@@ -58,13 +60,16 @@ module _ (u : Units) where
   pub check-replies : (p o k : ℕ) (l r : Checked) (a : ChainChecked) (x y g t via : List ℕ) (s : Reply)
       → Checks lists (u .lists) p o k l x → Checks rows (u .rows) p o k r y
       → ChainChecks (u .chains) lentBuffer p o k a via (images g t)
-      → s ≡ reply (checkSaid (checkedNumber l) (checkedYes l)) (checkSaid (checkedNumber r) (checkedYes r)) (checkSaid (chainNumber a) (foundIn a .yes)) (checkTail (foundIn a))
+      → s ≡ reply (checkSaid (checkedNumber l) (checkedYes l)) (checkSaid (checkedNumber r) (checkedYes r))
+      (checkSaid (chainNumber a) (foundIn a .yes)) (checkTail (foundIn a))
       → Replies u (Ask p o k) s via (unitsIn x y g t)
   unfolding replyOf viaOf unitsAfter
   check-replies p o k l r a x y g t via s hl hr hc e =
       let z = chain-told (u .chains) lentBuffer p o k a (hc .0) in
       record {
-        reply = e ∙ (λ i. reply (check-said lists (u .lists) p o k l x hl i) (check-said rows (u .rows) p o k r y hr i) (checkSaid (z .0 i) (z .1 i .yes)) (checkTail (z .1 i)));
+        reply =
+            e ∙ (λ i. reply (check-said lists (u .lists) p o k l x hl i) (check-said rows (u .rows) p o k r y hr i)
+            (checkSaid (z .0 i) (z .1 i .yes)) (checkTail (z .1 i)));
         buffer = hc .1;
         units = λ i. record { lists = hl .1 i; rows = hr .1 i; chains = hc .2 i };
       }

@@ -18,7 +18,9 @@ use Rattle.reader.specs.Replies.{unitsIn, sized, startNumber, startOf, S
 
 -- every buffer has its length
 abbrev pub Sized : Units → Type 0
-Sized u = (length (u .lists) ≡ listWords) × (length (u .rows) ≡ rowBytes) × (length (u .chains .grants) ≡ grantCells) × (length (u .chains .loans) ≡ loanWords)
+Sized u =
+    (length (u .lists) ≡ listWords) × (length (u .rows) ≡ rowBytes) × (length (u .chains .grants) ≡ grantCells)
+    × (length (u .chains .loans) ≡ loanWords)
 
 pub start-refused : (u : Units) → (Sized u → ⊥) → Starts u is.WrongLength u
 unfolding startNumber startOf

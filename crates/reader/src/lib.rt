@@ -43,7 +43,8 @@ fn run_command(
     loans: &mut [u32],
     c: Command,
 ) -> Reply
-    ensures { λ r. ⌜ Replies (unitsIn (now (list .entry)) (now (row .entry)) (now (grants .entry)) (now (loans .entry))) (Run c) r lentBuffer (unitsIn (now (list .exit)) (now (row .exit)) (now (grants .exit)) (now (loans .exit))) ⌝ }
+    ensures { λ r. ⌜ Replies (unitsIn (now (list .entry)) (now (row .entry)) (now (grants .entry)) (now (loans .entry))) (Run c) r
+        lentBuffer (unitsIn (now (list .exit)) (now (row .exit)) (now (grants .exit)) (now (loans .exit))) ⌝ }
 {
     let l = lists::offer(list, c);
     let r = rows::offer(row, c);
@@ -61,7 +62,8 @@ fn run_check(
     on: u32,
     right: u32,
 ) -> Replied
-    ensures { λ r. ⌜ Replies (unitsIn (now (list .entry)) (now (row .entry)) (now (grants .entry)) (now (loans .entry))) (Ask who on right) (r .reply) (r .via) (unitsIn (now (list .exit)) (now (row .exit)) (now (grants .exit)) (now (loans .exit))) ⌝ }
+    ensures { λ r. ⌜ Replies (unitsIn (now (list .entry)) (now (row .entry)) (now (grants .entry)) (now (loans .entry)))
+        (Ask who on right) (r .reply) (r .via) (unitsIn (now (list .exit)) (now (row .exit)) (now (grants .exit)) (now (loans .exit))) ⌝ }
 {
     let mut via = [0u8; 8];
     let l = lists::check(list, who, on, right);
@@ -79,7 +81,8 @@ pub fn run(
     loans: &mut [u32],
     line: Parsed,
 ) -> Replied
-    ensures { λ r. ⌜ Replies (unitsIn (now (list .entry)) (now (row .entry)) (now (grants .entry)) (now (loans .entry))) line (r .reply) (r .via) (unitsIn (now (list .exit)) (now (row .exit)) (now (grants .exit)) (now (loans .exit))) ⌝ }
+    ensures { λ r. ⌜ Replies (unitsIn (now (list .entry)) (now (row .entry)) (now (grants .entry)) (now (loans .entry))) line (r .reply)
+        (r .via) (unitsIn (now (list .exit)) (now (row .exit)) (now (grants .exit)) (now (loans .exit))) ⌝ }
 {
     match line {
         Parsed::Run(c) => {

@@ -11,6 +11,7 @@ use Rattle.layouts.specs.Subjects.{subjectsNumber, subjectsAnswer}
 use Rattle.delegation.specs.Images.{Images}
 use Rattle.delegation.specs.ChainUnit.{chainCheckNumber, chainFound, chainBuffer, chainLeft, chainFreshNumber, chainFreshOf, chainGuarded}
 
+-- yes is 1 and no is 0
 abbrev pub flag : Bool → ℕ
 flag b = cond b 1 0
 
@@ -49,5 +50,6 @@ ChainAnswers s buffer p o r n d k b x =
     (n ≡ chainCheckNumber s buffer p o r) × (d ≡ chainFound s buffer p o r .depth) × (k ≡ chainFound s buffer p o r .persons)
     × (b ≡ chainBuffer s buffer p o r) × (x ≡ chainLeft s buffer p o r)
 
+-- number n and images x of a look at the images alone
 abbrev pub ChainInspects : Images → ℕ → Images → Type 0
 ChainInspects s n x = (n ≡ chainGuarded s true 0) × (x ≡ s)

@@ -7,7 +7,8 @@ ghost use Rattle.rights_c.specs.Exports.{Gives, ChainFreshens, ChainAnsw
 
 #[no_mangle]
 pub extern "C" fn rights_chains_fresh(grants: &mut [u8], loans: &mut [u32]) -> u32
-    ensures { λ r. ⌜ ChainFreshens (images (now (grants .entry)) (now (loans .entry))) r (images (now (grants .exit)) (now (loans .exit))) ⌝ }
+    ensures { λ r. ⌜ ChainFreshens (images (now (grants .entry)) (now (loans .entry))) r
+        (images (now (grants .exit)) (now (loans .exit))) ⌝ }
 {
     let a = chains::fresh(grants, loans);
     a.number()
@@ -20,7 +21,8 @@ pub extern "C" fn rights_chains_create(
     by: u32,
     on: u32,
 ) -> u32
-    ensures { λ r. ⌜ Gives chainUnit (images (now (grants .entry)) (now (loans .entry))) (Create by on) r (images (now (grants .exit)) (now (loans .exit))) ⌝ }
+    ensures { λ r. ⌜ Gives chainUnit (images (now (grants .entry)) (now (loans .entry))) (Create by on) r
+        (images (now (grants .exit)) (now (loans .exit))) ⌝ }
 {
     let a = chains::create(grants, loans, by, on);
     a.number()
@@ -33,7 +35,8 @@ pub extern "C" fn rights_chains_delete(
     by: u32,
     on: u32,
 ) -> u32
-    ensures { λ r. ⌜ Gives chainUnit (images (now (grants .entry)) (now (loans .entry))) (Delete by on) r (images (now (grants .exit)) (now (loans .exit))) ⌝ }
+    ensures { λ r. ⌜ Gives chainUnit (images (now (grants .entry)) (now (loans .entry))) (Delete by on) r
+        (images (now (grants .exit)) (now (loans .exit))) ⌝ }
 {
     let a = chains::delete(grants, loans, by, on);
     a.number()
@@ -49,7 +52,8 @@ pub extern "C" fn rights_chains_allow(
     right: u32,
     depth: u32,
 ) -> u32
-    ensures { λ r. ⌜ Gives chainUnit (images (now (grants .entry)) (now (loans .entry))) (Allow by to on right depth) r (images (now (grants .exit)) (now (loans .exit))) ⌝ }
+    ensures { λ r. ⌜ Gives chainUnit (images (now (grants .entry)) (now (loans .entry))) (Allow by to on right depth) r
+        (images (now (grants .exit)) (now (loans .exit))) ⌝ }
 {
     let a = chains::allow(grants, loans, by, to, on, right, depth);
     a.number()
@@ -64,7 +68,8 @@ pub extern "C" fn rights_chains_withdraw(
     on: u32,
     right: u32,
 ) -> u32
-    ensures { λ r. ⌜ Gives chainUnit (images (now (grants .entry)) (now (loans .entry))) (Withdraw by to on right) r (images (now (grants .exit)) (now (loans .exit))) ⌝ }
+    ensures { λ r. ⌜ Gives chainUnit (images (now (grants .entry)) (now (loans .entry))) (Withdraw by to on right) r
+        (images (now (grants .exit)) (now (loans .exit))) ⌝ }
 {
     let a = chains::withdraw(grants, loans, by, to, on, right);
     a.number()
@@ -80,7 +85,8 @@ pub extern "C" fn rights_chains_lend(
     right: u32,
     depth: u32,
 ) -> u32
-    ensures { λ r. ⌜ Gives chainUnit (images (now (grants .entry)) (now (loans .entry))) (Lend by to on right depth) r (images (now (grants .exit)) (now (loans .exit))) ⌝ }
+    ensures { λ r. ⌜ Gives chainUnit (images (now (grants .entry)) (now (loans .entry))) (Lend by to on right depth) r
+        (images (now (grants .exit)) (now (loans .exit))) ⌝ }
 {
     let a = chains::lend(grants, loans, by, to, on, right, depth);
     a.number()
@@ -96,7 +102,8 @@ pub extern "C" fn rights_chains_recall(
     right: u32,
     depth: u32,
 ) -> u32
-    ensures { λ r. ⌜ Gives chainUnit (images (now (grants .entry)) (now (loans .entry))) (Recall by to on right depth) r (images (now (grants .exit)) (now (loans .exit))) ⌝ }
+    ensures { λ r. ⌜ Gives chainUnit (images (now (grants .entry)) (now (loans .entry))) (Recall by to on right depth) r
+        (images (now (grants .exit)) (now (loans .exit))) ⌝ }
 {
     let a = chains::recall(grants, loans, by, to, on, right, depth);
     a.number()
@@ -113,7 +120,8 @@ pub extern "C" fn rights_chains_check(
     depth: &mut u32,
     persons: &mut u32,
 ) -> u32
-    ensures { λ r. ⌜ ChainAnswers (images (now (grants .entry)) (now (loans .entry))) (now (chain .entry)) who on right r (now (depth .exit)) (now (persons .exit)) (now (chain .exit)) (images (now (grants .exit)) (now (loans .exit))) ⌝ }
+    ensures { λ r. ⌜ ChainAnswers (images (now (grants .entry)) (now (loans .entry))) (now (chain .entry)) who on right r
+        (now (depth .exit)) (now (persons .exit)) (now (chain .exit)) (images (now (grants .exit)) (now (loans .exit))) ⌝ }
 {
     let c = chains::check(grants, loans, who, on, right, chain);
     let f = reply::values(c);
@@ -124,7 +132,8 @@ pub extern "C" fn rights_chains_check(
 
 #[no_mangle]
 pub extern "C" fn rights_chains_in_order(grants: &[u8], loans: &[u32]) -> u32
-    ensures { λ r. ⌜ ChainInspects (images (now (grants .entry)) (now (loans .entry))) r (images (now (grants .exit)) (now (loans .exit))) ⌝ }
+    ensures { λ r. ⌜ ChainInspects (images (now (grants .entry)) (now (loans .entry))) r
+        (images (now (grants .exit)) (now (loans .exit))) ⌝ }
 {
     let a = chains::inspect(grants, loans);
     a.number()

@@ -44,7 +44,8 @@ module _ (s : List ℕ) (l : length s ≡ 4104) (h : Cells 8 s) where
       → zeroed (spaced (8 + on) 64 64) (zeroed (spaced (8 + 64 * on) 1 64) (cleared s (on / 8) (on % 8))) ≡ deleted rows s on
   unfolding rows
   cells-left on o =
-      delete-cells rows rows-laws s l h on (on / 8) (on % 8) (spaced (8 + 64 * on) 1 64) (spaced (8 + on) 64 64) o (omega arith) (omega arith) (omega arith)
+      delete-cells rows rows-laws s l h on (on / 8) (on % 8) (spaced (8 + 64 * on) 1 64) (spaced (8 + on) 64 64) o (omega arith)
+      (omega arith) (omega arith)
       (λ i u. rw (spaced-before (8 + 64 * on) 1 64 (i / 8) (omega arith), spaced-before (8 + on) 64 64 (i / 8) (omega arith)))
       (λ i u. let e : (64 + i) / 8 ≡ 8 + i / 8 = omega arith in
       let q : i / 8 / 64 ≡ i / 512 = omega arith in

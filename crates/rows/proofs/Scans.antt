@@ -41,18 +41,21 @@ module _ (s : List ℕ) (h : (i : ℕ) → getD s i 0 < 2 ^ 8) where
   row-items : (who : ℕ) → itemsOk rows s 512 who ≡ allBelow 64 (λ o. eqb (byte who o) 0 || at 8 s o)
   unfolding itemsOk rows
   row-items who =
-      row-bytes who (λ k. at 8 s (k / 8 % 64)) (at 8 s) (λ o r u v. ap (at 8 s) (let e : (512 * who + (8 * o + r)) / 8 % 64 ≡ o = omega arith in e))
+      row-bytes who (λ k. at 8 s (k / 8 % 64)) (at 8 s)
+      (λ o r u v. ap (at 8 s) (let e : (512 * who + (8 * o + r)) / 8 % 64 ≡ o = omega arith in e))
 
   -- eight rows, lent as one part, under the masks
   pub items-pass : (k : ℕ) (d : List ℕ) (x : Bool) → d ≡ masksOf s
-      → x ≡ allBelow 64 (λ p. allBelow 8 (λ j. eqb (bitAnd (getD (take (8 + 512 * k + 512 - (8 + 512 * k)) (drop (8 + 512 * k) s)) (p + 64 * j) 0) (bitOr 0 (getD d p 0))) 0))
+      → x ≡ allBelow 64 (λ p. allBelow 8
+      (λ j. eqb (bitAnd (getD (take (8 + 512 * k + 512 - (8 + 512 * k)) (drop (8 + 512 * k) s)) (p + 64 * j) 0) (bitOr 0 (getD d p 0))) 0))
       → x ≡ allBelow 8 (λ j. itemsOk rows s 512 (8 * k + j))
   items-pass k d x f q =
       q
       ∙ below-ext 64 _ (λ p. allBelow 8 (λ j. eqb (byte (8 * k + j) p) 0 || at 8 s p))
       (λ p u. below-ext 8 _ _
       (λ j v. let n : 8 + 512 * k + (p + 64 * j) ≡ 8 + 64 * (8 * k + j) + p = omega arith in
-      let part = getD-take (8 + 512 * k + 512 - (8 + 512 * k)) (drop (8 + 512 * k) s) (p + 64 * j) 0 (omega arith) ∙ getD-drop (8 + 512 * k) s (p + 64 * j) 0 ∙ ap (λ (i : ℕ). getD s i 0) n in
+      let part = getD-take (8 + 512 * k + 512 - (8 + 512 * k)) (drop (8 + 512 * k) s) (p + 64 * j) 0 (omega arith)
+      ∙ getD-drop (8 + 512 * k) s (p + 64 * j) 0 ∙ ap (λ (i : ℕ). getD s i 0) n in
       rw (part, masks-at s d f p u) (mask-both 8 (byte (8 * k + j) p) true (at 8 s p) (h _))))
       ∙ below-swap 64 8 (λ p j. eqb (byte (8 * k + j) p) 0 || at 8 s p)
       ∙ below-ext 8 _ _ (λ j v. sym (row-items (8 * k + j)))
@@ -61,7 +64,8 @@ module _ (s : List ℕ) (h : (i : ℕ) → getD s i 0 < 2 ^ 8) where
     -- what the code finds of the row, lent as a part
     abbrev hasRight : Bool
     hasRight =
-        not (eqb (orBelow (length (take (8 + 64 * who + 64 - (8 + 64 * who)) (drop (8 + 64 * who) s))) (λ i. getD (take (8 + 64 * who + 64 - (8 + 64 * who)) (drop (8 + 64 * who) s)) i 0)) 0)
+        not (eqb (orBelow (length (take (8 + 64 * who + 64 - (8 + 64 * who)) (drop (8 + 64 * who) s)))
+        (λ i. getD (take (8 + 64 * who + 64 - (8 + 64 * who)) (drop (8 + 64 * who) s)) i 0)) 0)
 
     joined : hasRight ≡ not (eqb (orBelow 64 (byte who)) 0)
     joined = ap (λ (x : ℕ). not (eqb x 0)) (or-part s (8 + 64 * who) 64 (omega arith))
@@ -102,7 +106,8 @@ module _ (s : List ℕ) (h : (i : ℕ) → getD s i 0 < 2 ^ 8) where
     row-person : personsOk rows s 512 who ≡ eqb (orBelow 64 (byte who)) 0 || at 8 s who
     unfolding personsOk rows
     row-person =
-        row-bytes who (λ k. at 8 s (k / 512)) (λ o. at 8 s who) (λ o r u v. ap (at 8 s) (let e : (512 * who + (8 * o + r)) / 512 ≡ who = omega arith in e))
+        row-bytes who (λ k. at 8 s (k / 512)) (λ o. at 8 s who)
+        (λ o r u v. ap (at 8 s) (let e : (512 * who + (8 * o + r)) / 512 ≡ who = omega arith in e))
         ∙ below-or 64 (λ o. eqb (byte who o) 0) (at 8 s who) ∙ ap (λ x. x || at 8 s who) (sym (or-zero-below 64 (byte who)))
 
     -- by the person's mask, and v, whether the row has a right
@@ -119,7 +124,8 @@ module _ (s : List ℕ) (h : (i : ℕ) → getD s i 0 < 2 ^ 8) where
 
       pub person-dead : (v : Bool) → (getD d who 0 ≡ 0 → ⊥) → v ≡ hasRight → not v ≡ personsOk rows s 512 who
       person-dead v n q =
-          ap not (q ∙ joined) ∙ twice (eqb (orBelow 64 (byte who)) 0) ∙ sym (row-person ∙ rw (lives, ne-eqb _ 0 n) (or-false (eqb (orBelow 64 (byte who)) 0)))
+          ap not (q ∙ joined) ∙ twice (eqb (orBelow 64 (byte who)) 0)
+          ∙ sym (row-person ∙ rw (lives, ne-eqb _ 0 n) (or-false (eqb (orBelow 64 (byte who)) 0)))
         where
           twice : (b : Bool) → not (not b) ≡ b
           twice true = refl

@@ -2,6 +2,9 @@
 // has bit r for each right r that the person has on item on.
 use bits::byte;
 use bits::bytes;
+use layouts::admit;
+use layouts::admit::CheckAdmission;
+use layouts::admit::CommandAdmission;
 use layouts::live;
 use model::Answer;
 use model::Checked;
@@ -10,11 +13,9 @@ use model::Edit;
 use model::Facts;
 use model::Item;
 use model::Offered;
-use model::Question;
 use model::Right;
 use model::SubjectSet;
 use model::Typed;
-use model::Within;
 use model::judge;
 ghost use mathlib.Core.Path.{_≡_};
 ghost use Prim.Native.Nat.{_+_, _*_, _<_};
@@ -179,14 +180,10 @@ fn settle(image: &mut [u8], t: Typed) -> Answer
 fn run(image: &mut [u8], c: Command) -> Answer
     ensures { λ r. ⌜ Ran (flatUnit rows) (now (image .entry)) c r (now (image .exit)) ⌝ }
 {
-    let a = order(image);
-    if a.number() != 0 {
-        return a;
-    }
-    let w = c.within();
-    match w {
-        Within::Beyond => Answer::OutOfRange,
-        Within::Typed(t) => settle(image, t),
+    let a = admit::command(order(image), c);
+    match a {
+        CommandAdmission::Refused(r) => r,
+        CommandAdmission::Ready(t) => settle(image, t),
     }
 }
 
@@ -237,14 +234,10 @@ pub fn offer(image: &mut [u8], c: Command) -> Offered
 pub fn check(image: &[u8], who: u32, on: u32, right: u32) -> Checked
     ensures { λ r. ⌜ Checks rows (now (image .entry)) who on right r (now (image .exit)) ⌝ }
 {
-    let a = order(image);
-    if a.number() != 0 {
-        return Checked::Refused(a);
-    }
-    let q = Question::read(who, on, right);
-    match q {
-        Question::Beyond => Checked::Refused(Answer::OutOfRange),
-        Question::Asked {
+    let a = admit::check(order(image), who, on, right);
+    match a {
+        CheckAdmission::Refused(r) => Checked::Refused(r),
+        CheckAdmission::Ready {
             who: p,
             on: i,
             right: r,

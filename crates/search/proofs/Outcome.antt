@@ -4,7 +4,7 @@ use mathlib.Core.List.{List, _++_}
 use Prim.Native.Nat.{ℕ, _+_, _-_, _*_, _≤_}
 use native.Mathlib.Omega.{arith}
 use lib.Dec.{eqb}
-use borrow.Author.Tests.{le-leb, ne-eqb}
+use borrow.Author.Tests.{ne-eqb}
 use Rattle.model.specs.Commands.{depthOf}
 use Rattle.model.specs.Answers.{foundSaid}
 use Rattle.model.specs.declared.Depth.{Depth}
@@ -14,6 +14,7 @@ use lib.ListN.{drop, take, replicate}
 use Rattle.bits.specs.Sets.{keep, tabulate, most, firstAt}
 use Rattle.delegation.specs.Loans.{keyOf, countOf, used}
 use Rattle.delegation.specs.Search.{picked, grantRound, roundAt, column, traced, roundsOf, heightOf, lengthOf, foundOf, chainOf}
+use Rattle.model.proofs.Commands.{depth-is, depth-never}
 use Rattle.delegation.proofs.Search.{height-le, found-no, found-yes}
 use Rattle.search.specs.Entry.{entryFound}
 use Rattle.search.specs.Settled.{Settled}
@@ -21,15 +22,12 @@ use Rattle.search.proofs.Trace.{traced-ext}
 
 -- an entry of at most 8 is read as a depth, and never found beyond the limit
 module _ (value at : ℕ) (le : value ≤ 8) (ne : value ≡ 0 → ⊥) where
-  within : depthOf (value - 1) ≡ depthRead.Within (record { 0 = value - 1 })
-  within = rw (le-leb (value - 1) 7 (omega arith))
-
   pub said-within : (d : Depth) → depthOf (value - 1) ≡ depthRead.Within d → chain.Yes d (at + 1) ≡ foundSaid (entryFound value at)
   unfolding foundSaid
-  said-within d e = let q : d ≡ record { 0 = value - 1 } = cc within in rw (ne-eqb value 0 ne, q)
+  said-within d e = rw (ne-eqb value 0 ne, ← (depth-is (value - 1) d (omega arith) e))
 
   pub said-beyond : depthOf (value - 1) ≡ depthRead.Beyond → ⊥
-  said-beyond e = let z : _≡_ {A = ℕ} 0 1 = cc within in omega arith
+  said-beyond e = depth-never (value - 1) (omega arith) e
 
 -- what the code has before it answers
 pub record Searched (gs t : List ℕ) (key who : ℕ) (ls : List ℕ) (rounds : List (List ℕ)) (value at : ℕ) : Type 0 where
@@ -48,7 +46,8 @@ unfolding used picked roundsOf heightOf lengthOf
 searched gs t key who n first ls rounds value at n-is h l f r v a =
     let m : n + 1 - 1 ≡ countOf t = omega arith in
     let e : ls ≡ picked t key = l ∙ (λ j. keep (λ w. eqb (keyOf w) key) (take (m j) (drop 1 t))) in
-    let s : Settled (roundsOf gs t key) rounds who = subst (λ (x : List (List ℕ)). Settled x rounds who) (λ j. tabulate 8 (roundAt (f j) (e j))) r in
+    let s : Settled (roundsOf gs t key) rounds who = subst (λ (x : List (List ℕ)). Settled x rounds who)
+    (λ j. tabulate 8 (roundAt (f j) (e j))) r in
     let u : value ≡ heightOf gs t key who = v ∙ s .value in
     record {
       loans-are = e;

@@ -20,7 +20,8 @@ unfolding keep
 keep-append t [] ys = refl
 keep-append t (x ∷ xs) ys = go (t x) (keep-append t xs ys)
   where
-    go : (b : Bool) → keep t (xs ++ ys) ≡ keep t xs ++ keep t ys → cond b (x ∷ keep t (xs ++ ys)) (keep t (xs ++ ys)) ≡ cond b (x ∷ keep t xs) (keep t xs) ++ keep t ys
+    go : (b : Bool) → keep t (xs ++ ys) ≡ keep t xs ++ keep t ys
+        → cond b (x ∷ keep t (xs ++ ys)) (keep t (xs ++ ys)) ≡ cond b (x ∷ keep t xs) (keep t xs) ++ keep t ys
     go true e = ap (_∷_ x) e
     go false e = e
 
@@ -46,7 +47,8 @@ module _ (t : ℕ → Bool) (ls : List ℕ) (i : ℕ) (h : i < length ls) where
     written : (b : Bool) → take (m + cond b 1 0) (set out m x) ≡ keep t (take i ls) ++ cond b (x ∷ []) []
     written true = ap (λ (k : ℕ). take k (set out m x)) (add-one m) ∙ take-suc-set out m x room ∙ ap (λ (l : List ℕ). l ++ (x ∷ [])) so-far
     written false =
-        ap (λ (k : ℕ). take k (set out m x)) (add-zero m) ∙ take-set-le m out m x (omega arith) ∙ so-far ∙ sym (append-nil (keep t (take i ls)))
+        ap (λ (k : ℕ). take k (set out m x)) (add-zero m) ∙ take-set-le m out m x (omega arith) ∙ so-far
+        ∙ sym (append-nil (keep t (take i ls)))
 
     pub pick-more : (n : ℕ) → n ≡ cond (t (getD ls i 0)) 1 0 → take (m + n) (set out m (getD ls i 0)) ≡ keep t (take (i + 1) ls)
     pick-more n e = ap (λ (k : ℕ). take (m + k) (set out m x)) e ∙ written (t x) ∙ sym keep-more

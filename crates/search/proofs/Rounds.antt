@@ -20,7 +20,8 @@ use Rattle.delegation.proofs.Search.{arrive-here, arrive-else}
 pub fill-more : {A : Type 0} (f : ℕ → A) (d : A) (l : List A) (p : ℕ) (v : A) → p < length l → v ≡ f p
     → ((k : ℕ) → k < p → getD l k d ≡ f k) → (k : ℕ) → k < p + 1 → getD (set l p v) k d ≡ f k
 fill-more f d l p v h e all =
-    below-more (λ (k : ℕ). getD (set l p v) k d ≡ f k) p (λ k lt. getD-set-other l p k v d (omega arith) ∙ all k lt) (getD-set-same l p v d h ∙ e)
+    below-more (λ (k : ℕ). getD (set l p v) k d ≡ f k) p (λ k lt. getD-set-other l p k v d (omega arith) ∙ all k lt)
+    (getD-set-same l p v d h ∙ e)
 
 pub most-more : (f : ℕ → ℕ) (i : ℕ) → most f (i + 1) ≡ max (most f i) (f i)
 unfolding most

@@ -68,7 +68,8 @@ next-le ls round b all q h =
     omega (arith, getD-tabulate 64 (λ (q : ℕ). most (arriving ls round q) (length ls)) q 0 h)
 
 module _ (first ls : List ℕ) (k : ℕ) where
-  later-le : (b : ℕ) → ((p : ℕ) → p < 64 → getD (roundAt first ls k) p 0 ≤ b) → (j : ℕ) → k < j → (q : ℕ) → q < 64 → getD (roundAt first ls j) q 0 ≤ b - 1
+  later-le : (b : ℕ) → ((p : ℕ) → p < 64 → getD (roundAt first ls k) p 0 ≤ b) → (j : ℕ) → k < j → (q : ℕ) → q < 64
+      → getD (roundAt first ls j) q 0 ≤ b - 1
   unfolding roundAt
   later-le b all zero h q l = absurd (omega arith)
   later-le b all (suc j) h q l =
@@ -96,13 +97,15 @@ module _ (first ls : List ℕ) (k : ℕ) where
     pub settled : ((j : ℕ) → k < j → j < 8 → getD (roundAt first ls j) who 0 ≤ top) → Settled (tabulate 8 (roundAt first ls)) rounds who
     unfolding roundAt
     settled low =
-        let so-far : most (column whole who) (k + 1) ≡ top = most-ext (column whole who) entry (k + 1) (λ j h. entry-at j (omega arith)) ∙ sym top-is in
+        let so-far : most (column whole who) (k + 1) ≡ top = most-ext (column whole who) entry (k + 1) (λ j h. entry-at j (omega arith))
+        ∙ sym top-is in
         let same : (j : ℕ) → j < k + 1 → getD rounds j [] ≡ getD whole j [] = λ j h. made j h ∙ sym (whole-at j (omega arith)) in
         let even : (j : ℕ) → j < k + 1 → column rounds who j ≡ column whole who j = λ j h. ap (λ (x : List ℕ). getD x who 0) (same j h) in
         let m = most-ext (column rounds who) (column whole who) (k + 1) even in
         let w = unchanged (column whole who) (k + 1) 8 (λ j h l. omega (arith, entry-at j l, low j (omega arith) l)) (omega arith) in
         let r = unchanged (column rounds who) (k + 1) 8
-        (λ j h l. omega (arith, ap (λ (x : List ℕ). getD x who 0) (rest j (omega arith) l), most-above entry (k + 1) 0 (omega arith))) (omega arith) in
+        (λ j h l. omega (arith, ap (λ (x : List ℕ). getD x who 0) (rest j (omega arith) l), most-above entry (k + 1) 0 (omega arith)))
+        (omega arith) in
         let bound : firstAt (column whole who) (k + 1) ≤ k = rw add-one (first-le (column whole who) k) in
         record {
           value = r .0 ∙ m ∙ sym (w .0);

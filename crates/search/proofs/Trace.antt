@@ -49,7 +49,8 @@ unfolding traced
 traced-step rounds ls l zero q p h = absurd (omega arith)
 traced-step rounds ls l (suc k) q p h =
     let e : suc k - 1 ≡ k = omega arith in
-    append-assoc (traced rounds ls k (lenderTo ls (getD rounds k []) q (column rounds q (suc k)) (length ls))) (q ∷ []) (drop (suc (suc k)) l)
+    append-assoc (traced rounds ls k (lenderTo ls (getD rounds k []) q (column rounds q (suc k)) (length ls))) (q ∷ [])
+    (drop (suc (suc k)) l)
     ∙ rw e (rw (drop-at-set l (suc k) q h) refl)
 
 pub traced-end : (rounds : List (List ℕ)) (ls l : List ℕ) (q : ℕ) → 0 < length l → traced rounds ls 0 q ++ drop 1 l ≡ set l 0 q
@@ -58,7 +59,8 @@ traced-end rounds ls [] q h = absurd (omega arith)
 traced-end rounds ls (x ∷ l) q h = refl
 
 -- the chain depends on the rounds up to its own only
-pub traced-ext : (r s : List (List ℕ)) (ls : List ℕ) (k q : ℕ) → ((j : ℕ) → j ≤ k → getD r j [] ≡ getD s j []) → traced r ls k q ≡ traced s ls k q
+pub traced-ext : (r s : List (List ℕ)) (ls : List ℕ) (k q : ℕ) → ((j : ℕ) → j ≤ k → getD r j [] ≡ getD s j [])
+    → traced r ls k q ≡ traced s ls k q
 unfolding traced
 traced-ext r s ls zero q e = refl
 traced-ext r s ls (suc k) q e =

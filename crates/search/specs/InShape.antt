@@ -7,6 +7,7 @@ use Rattle.model.specs.Commands.{mostLoans}
 use Rattle.layouts.specs.Layouts.{grantCells}
 use Rattle.delegation.specs.Loans.{loanWords, countOf}
 
+-- both images and the buffer have their lengths, the count and the arguments are within their limits
 pub record InShape (gs t : List ℕ) (who on right room : ℕ) : Type 0 where
   pub grants : length gs ≡ grantCells
   pub loans : length t ≡ loanWords

@@ -7,6 +7,7 @@ use lib.ListN.{length, take}
 use Rattle.bits.specs.Sets.{keep}
 use Rattle.delegation.specs.Loans.{keyOf}
 
+-- out holds them, m in number
 pub record Picked (loans : List ℕ) (key i m : ℕ) (out : List ℕ) : Type 0 where
   pub within : i ≤ length loans
   pub count : m ≤ i

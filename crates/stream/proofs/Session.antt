@@ -61,7 +61,8 @@ output-append s (x ∷ xs) ys =
     ∙ sym (append-assoc (pieceOutput s x) (piecesOutput (sessionAfter s x) xs) (piecesOutput (sessionAfterAll (sessionAfter s x) xs) ys))
 
 parts-pieces : (s : Session) (cs : List (List ℕ))
-    → partsOutput s cs ≡ piecesOutput s (pieces cs) ++ closing (sessionAfterAll s (pieces cs) .lines) (sessionAfterAll s (pieces cs) .collector .held)
+    → partsOutput s cs ≡ piecesOutput s (pieces cs) ++ closing (sessionAfterAll s (pieces cs) .lines)
+    (sessionAfterAll s (pieces cs) .collector .held)
 unfolding partsOutput pieces piecesOutput sessionAfterAll
 parts-pieces s [] = refl
 parts-pieces s (c ∷ cs) =
@@ -85,7 +86,8 @@ line-runs u u′ x n out out′ at r s via e h p = record {
 }
 
 -- ---- one piece of a chunk
-module _ (n : ℕ) (u : Units) (buf buf′ : List ℕ) (p : Partial) (chunk out : List ℕ) (at : ℕ) (fed : Fed) (e : fed ≡ fedOf (length buf) p chunk)
+module _ (n : ℕ) (u : Units) (buf buf′ : List ℕ) (p : Partial) (chunk out : List ℕ) (at : ℕ) (fed : Fed)
+    (e : fed ≡ fedOf (length buf) p chunk)
     (b : buf′ ≡ bufferAfter buf p (beforeNewline chunk)) where
   pub takes-open : fed .ended ≡ false → Takes (session n u buf p) chunk out at (fed .used) at (session n u buf′ (fed .held)) out
   unfolding sessionAfter pieceOutput

@@ -122,7 +122,8 @@ pub fn consume(
     p: Progress,
     chunk: &[u8],
 ) -> Consumed
-    ensures { λ r. ⌜ Consumes (session (p .lines) (unitsIn (now (list .entry)) (now (row .entry)) (now (grants .entry)) (now (loans .entry)))
+    ensures { λ r. ⌜ Consumes
+        (session (p .lines) (unitsIn (now (list .entry)) (now (row .entry)) (now (grants .entry)) (now (loans .entry)))
         (now (buf .entry)) (p .held)) (now (chunk .entry)) (now (out .entry)) (r .used) (r .written)
         (session (r .next .lines) (unitsIn (now (list .exit)) (now (row .exit)) (now (grants .exit)) (now (loans .exit)))
         (now (buf .exit)) (r .next .held)) (now (out .exit)) ⌝ }

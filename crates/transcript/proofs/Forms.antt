@@ -54,7 +54,8 @@ check-form {j} {k} {n} {p} {o} {r} (text.refused h) = refused-form n (asked p o 
 check-form {j} {k} {n} {p} {o} {r} (text.none e h) = none-form n (hasGrant k p o r)
 check-form {j} {k} {n} {p} {o} {r} (text.found e g) =
     let s = chain-some j o r (g .chain) in
-    subst (λ (ps : List ℕ). Form n (outputLine n (reply (grantSaid k p o r) (grantSaid k p o r) Yes (Chain (g .depth) (length ps))) ps)) (sym (s .2))
+    subst (λ (ps : List ℕ). Form n (outputLine n (reply (grantSaid k p o r) (grantSaid k p o r) Yes (Chain (g .depth) (length ps))) ps))
+    (sym (s .2))
     (found-form n (hasGrant k p o r) (g .depth) (s .0) (s .1))
 
 -- where one journal stands for all
@@ -72,4 +73,5 @@ formed {j} {k} {n} q (text.next {x = x} t a rest) = next t (line-form j k q (n +
 
 -- one line of output for each line of input, and the last
 pub output-formed : (input : List ℕ) → Formed 0 (length (linesOf input)) (outputOf input)
-output-formed input = subst (λ (k : ℕ). Formed 0 k (outputOf input)) (length-map (linesOf input) parsedOf) (formed refl (text-agreement input))
+output-formed input =
+    subst (λ (k : ℕ). Formed 0 k (outputOf input)) (length-map (linesOf input) parsedOf) (formed refl (text-agreement input))

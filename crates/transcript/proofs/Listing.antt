@@ -19,12 +19,14 @@ listing-input =
 
 pub listing-asks :
     asksOf listing-input
-    ≡ Run (Create 0 3) ∷ Run (Create 0 4) ∷ Run (Create 0 9) ∷ Run (Allow 0 3 9 1 1) ∷ Run (Lend 3 4 9 1 0) ∷ Ask 4 9 1 ∷ Run (Withdraw 0 3 9 1)
+    ≡ Run (Create 0 3) ∷ Run (Create 0 4) ∷ Run (Create 0 9) ∷ Run (Allow 0 3 9 1 1) ∷ Run (Lend 3 4 9 1 0) ∷ Ask 4 9 1 ∷ Run
+    (Withdraw 0 3 9 1)
     ∷ Ask 4 9 1 ∷ []
 unfolding listing-input linesFrom parseLine orElse meaning readBy andThen numberAt decimal
 listing-asks = refl
 
--- malformed: a leading zero, a number too large, a field too many, two spaces, a space at the end, an empty line, fields in another order, a line that is not ended
+-- malformed: a leading zero, a number too large, a field too many, two spaces, a space at the end, an empty line, fields in another order,
+-- a line that is not ended
 pub malformed-lines :
     asksOf (bytes "do=create by=00 on=3\ndo=check who=4 on=9 right=4294967296\ndo=create by=0 on=3 right=1\ndo=create  by=0 on=3\n"
     ++ bytes "do=create by=0 on=3 \n\ndo=create on=3 by=0\ndo=create by=0 on=3")
@@ -32,14 +34,10 @@ pub malformed-lines :
 unfolding linesFrom parseLine orElse meaning readBy andThen numberAt decimal
 malformed-lines = refl
 
--- the largest value, and an empty input
+-- the largest value
 pub largest-value : asksOf (bytes "do=lend by=3 to=4 on=9 right=1 depth=4294967295\n") ≡ Run (Lend 3 4 9 1 4294967295) ∷ []
 unfolding linesFrom parseLine orElse meaning readBy andThen numberAt decimal
 largest-value = refl
-
-pub empty-input : asksOf [] ≡ []
-unfolding linesFrom
-empty-input = refl
 
 -- 'Empty input gives `lines=0`'
 pub empty-output : outputOf [] ≡ bytes "lines=0\n"

@@ -31,7 +31,8 @@ unfolding plain all linesFrom newline
 plain-line m [] rest p = ap (λ (k : List ℕ). line k true ∷ linesOf rest) (sym (append-nil m))
 plain-line m (b ∷ l) rest p =
     rw (not-true (eqb b 10) (fst (not (eqb b 10)) (plain l) p))
-    (plain-line (m ++ (b ∷ [])) l rest (snd (not (eqb b 10)) (plain l) p) ∙ ap (λ (k : List ℕ). line k true ∷ linesOf rest) (append-assoc m (b ∷ []) l))
+    (plain-line (m ++ (b ∷ [])) l rest (snd (not (eqb b 10)) (plain l) p)
+    ∙ ap (λ (k : List ℕ). line k true ∷ linesOf rest) (append-assoc m (b ∷ []) l))
 
 plain-digit : (d : ℕ) → plain ((48 + d) ∷ []) ≡ true
 unfolding plain all
@@ -40,7 +41,8 @@ plain-digit d = rw (ne-eqb (48 + d) 10 (λ e. omega arith))
 plain-in : (f n : ℕ) → plain (shownIn f n) ≡ true
 plain-in zero n = unfold plain all in refl
 plain-in (suc f) n =
-    by-cases (ltb n 10) (λ q. rw q (plain-digit n)) (λ q. rw q (plain-append (shownIn f (n / 10)) ((48 + n % 10) ∷ []) (plain-in f (n / 10)) (plain-digit (n % 10))))
+    by-cases (ltb n 10) (λ q. rw q (plain-digit n))
+    (λ q. rw q (plain-append (shownIn f (n / 10)) ((48 + n % 10) ∷ []) (plain-in f (n / 10)) (plain-digit (n % 10))))
 
 plain-shown : (n : ℕ) → plain (shown n) ≡ true
 unfolding shown
@@ -49,7 +51,9 @@ plain-shown n = plain-in (suc n) n
 plain-persons : (ps : List ℕ) → plain (morePersons ps) ≡ true
 unfolding morePersons
 plain-persons [] = unfold plain all in refl
-plain-persons (p ∷ ps) = plain-append (bytes ",") (shown p ++ morePersons ps) (unfold plain all in refl) (plain-append (shown p) (morePersons ps) (plain-shown p) (plain-persons ps))
+plain-persons (p ∷ ps) =
+    plain-append (bytes ",") (shown p ++ morePersons ps) (unfold plain all in refl)
+    (plain-append (shown p) (morePersons ps) (plain-shown p) (plain-persons ps))
 
 -- a line's text up to its byte 10
 record Body (t : List ℕ) : Type 0 where
@@ -92,7 +96,8 @@ form-body {n} (no b) = line-body n _ _ _ _ (plain-yesno b) (plain-yesno b) (plai
 form-body {n} (yes b d p ps) =
     line-body n _ _ _ _ (plain-yesno b) (plain-yesno b) (plain-yesno true)
     (plain-append (bytes " depth=") _ (unfold plain all in refl) (plain-append (shown d) _ (plain-shown d)
-    (plain-append (bytes " via=") _ (unfold plain all in refl) (plain-append (shown p) (morePersons ps) (plain-shown p) (plain-persons ps)))))
+    (plain-append (bytes " via=") _ (unfold plain all in refl)
+    (plain-append (shown p) (morePersons ps) (plain-shown p) (plain-persons ps)))))
 
 -- k + 1 lines, each ended
 pub record Split (k : ℕ) (t : List ℕ) : Type 0 where
@@ -109,7 +114,8 @@ last-lines n =
 
 next-lines : (t rest : List ℕ) (b : Body t) → linesOf (t ++ rest) ≡ line (b .text) true ∷ linesOf rest
 next-lines t rest b =
-    ap (λ (x : List ℕ). linesOf (x ++ rest)) (b .is) ∙ ap linesOf (append-assoc (b .text) newline rest) ∙ plain-line [] (b .text) rest (b .plainly)
+    ap (λ (x : List ℕ). linesOf (x ++ rest)) (b .is) ∙ ap linesOf (append-assoc (b .text) newline rest)
+    ∙ plain-line [] (b .text) rest (b .plainly)
 
 split : {n k : ℕ} {t : List ℕ} → Formed n k t → Split k t
 split {n} last = record { texts = (bytes "lines=" ++ shown n) ∷ []; count = refl; lines = last-lines n }

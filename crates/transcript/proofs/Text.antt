@@ -44,14 +44,16 @@ offered : (b : Bool) (m n : ℕ) → (b ≡ true → m ≡ n) → offeredSaid b 
 offered true m n h = ap Number (h refl)
 offered false m n h = refl
 
-command-line : (j k : Journal) (u : Units) (n : ℕ) (c : Command) → Answers j k u c → outputLine n (replyOf u (Run c)) (viaOf u (Run c)) ≡ commandLine j k n c
+command-line : (j k : Journal) (u : Units) (n : ℕ) (c : Command) → Answers j k u c
+    → outputLine n (replyOf u (Run c)) (viaOf u (Run c)) ≡ commandLine j k n c
 unfolding replyOf viaOf outputLine tailText
 command-line j k u n c a =
     let l = offered (flat c) (answerOf (flatUnit lists) (u .lists) c) (answered k c) (a .list) in
     let r = offered (flat c) (answerOf (flatUnit rows) (u .rows) c) (answered k c) (a .row) in
     rw (l, r, a .chain)
 
-malformed-line : (u : Units) (n : ℕ) → outputLine n (replyOf u Malformed) (viaOf u Malformed) ≡ outputLine n (reply (Number 11) (Number 11) (Number 11) Nothing) []
+malformed-line : (u : Units) (n : ℕ)
+    → outputLine n (replyOf u Malformed) (viaOf u Malformed) ≡ outputLine n (reply (Number 11) (Number 11) (Number 11) Nothing) []
 unfolding replyOf viaOf outputLine tailText
 malformed-line u n = refl
 
@@ -67,7 +69,8 @@ dashes-line n l r c via = same-line n l r c Dashes Dashes via [] (unfold tailTex
 
 chain-line : (n : ℕ) (l r c : Said) (d k : ℕ) (via : List ℕ)
     → outputLine n (reply l r c (Chain d k)) via ≡ outputLine n (reply l r c (Chain d (length (take k via)))) (take k via)
-chain-line n l r c d k via = same-line n l r c (Chain d k) (Chain d (length (take k via))) via (take k via) (unfold tailText in (rw take-length))
+chain-line n l r c d k via =
+    same-line n l r c (Chain d k) (Chain d (length (take k via))) via (take k via) (unfold tailText in (rw take-length))
 
 module _ (j k : Journal) (n p o r : ℕ) where
   -- the reply to a check, where f was found
@@ -76,7 +79,8 @@ module _ (j k : Journal) (n p o r : ℕ) where
 
   check-refused : (via : List ℕ) → (asked p o r ≡ 0 → ⊥) → CheckLine j k n p o r (outputLine n (checked (asked p o r) nothing) via)
   check-refused via ne =
-      subst (CheckLine j k n p o r) (sym (rw (ne-eqb (asked p o r) 0 ne) (dashes-line n (Number (asked p o r)) (Number (asked p o r)) (Number (asked p o r)) via)))
+      subst (CheckLine j k n p o r) (sym
+      (rw (ne-eqb (asked p o r) 0 ne) (dashes-line n (Number (asked p o r)) (Number (asked p o r)) (Number (asked p o r)) via)))
       (refused ne)
 
   check-settled : (f : Found) (via : List ℕ) → asked p o r ≡ 0 → Meets (λ ps a. JournalChain j o r ps p a) f via
@@ -94,7 +98,8 @@ module _ (j k : Journal) (n p o r : ℕ) where
     unfolding replyOf
     check-reply =
         λ i. reply (checkSaid (a .list .number p o r i) (a .list .yes p o r i)) (checkSaid (a .row .number p o r i) (a .row .yes p o r i))
-        (checkSaid (a .chain .number lentBuffer refl p o r i) (chainFound (u .chains) lentBuffer p o r .yes)) (checkTail (chainFound (u .chains) lentBuffer p o r))
+        (checkSaid (a .chain .number lentBuffer refl p o r i) (chainFound (u .chains) lentBuffer p o r .yes))
+        (checkTail (chainFound (u .chains) lentBuffer p o r))
 
     check-line : CheckLine j k n p o r (outputLine n (replyOf u (Ask p o r)) (viaOf u (Ask p o r)))
     unfolding viaOf
@@ -103,7 +108,8 @@ module _ (j k : Journal) (n p o r : ℕ) where
         (λ q. let e = eqb-true (asked p o r) 0 q in
         subst (λ x. CheckLine j k n p o r (outputLine n x (chainBuffer (u .chains) lentBuffer p o r)))
         (sym (check-reply ∙ ap (λ (m : ℕ). checked m (chainFound (u .chains) lentBuffer p o r)) e))
-        (check-settled (chainFound (u .chains) lentBuffer p o r) (chainBuffer (u .chains) lentBuffer p o r) e (a .chain .meets lentBuffer refl p o r e)))
+        (check-settled (chainFound (u .chains) lentBuffer p o r) (chainBuffer (u .chains) lentBuffer p o r) e
+        (a .chain .meets lentBuffer refl p o r e)))
         (λ q. let ne = eqb-false (asked p o r) 0 q in
         subst (λ x. CheckLine j k n p o r (outputLine n x (chainBuffer (u .chains) lentBuffer p o r)))
         (sym (check-reply ∙ ap (checked (asked p o r)) (a .chain .beyond lentBuffer refl p o r ne .0)))

@@ -37,7 +37,8 @@ withdrawn-journal = step lent-journal (Withdraw 0 3 9 1)
 one-grant : (p e : ℕ) → standing lent-journal (grant p 9 1 e) ≡ true → (p ≡ 3) × (e ≡ 1)
 unfolding lent-journal fresh any all keep add
 one-grant p e h =
-    let f = find (sameGrant (grant p 9 1 e)) (λ g. cond (eqb 1 (g .right)) (eqb (g .person) 3 && eqb (g .depth) 1) true) (lent-journal .grants) refl h in
+    let f = find (sameGrant (grant p 9 1 e)) (λ g. cond (eqb 1 (g .right)) (eqb (g .person) 3 && eqb (g .depth) 1) true)
+    (lent-journal .grants) refl h in
     let r : eqb 1 (f .0 .right) ≡ true = search (fst, snd) in
     let k : eqb (f .0 .person) 3 && eqb (f .0 .depth) 1 ≡ true = rw r at (f .1) in
     let a : p ≡ f .0 .person = search (fst, snd, eqb-true) in
@@ -94,7 +95,8 @@ last-line : {j k : Journal} {n : ℕ} {t : List ℕ} → Allowed step j k n [] t
 last-line last = refl
 
 -- the first check finds the one chain, the second none
-first-check : (n : ℕ) (t : List ℕ) → CheckLine lent-journal lent-journal n 4 9 1 t → t ≡ outputLine n (reply No No Yes (Chain 0 2)) (3 ∷ 4 ∷ [])
+first-check : (n : ℕ) (t : List ℕ) → CheckLine lent-journal lent-journal n 4 9 1 t
+    → t ≡ outputLine n (reply No No Yes (Chain 0 2)) (3 ∷ 4 ∷ [])
 unfolding lent-journal fresh any keep add
 first-check n t (refused h) = absurd (h refl)
 first-check n t (none e h) = absurd (h (3 ∷ 4 ∷ []) 0 (lent (loan 3 9 1 4 0) (refl, refl, refl) (granted {p = 3} {e = 1} refl)))
@@ -108,7 +110,8 @@ second-check n t (refused h) = absurd (h refl)
 second-check n t (none e h) = refl
 second-check n t (found e g) = absurd (no-chain (g .chain))
 
-next-check : {j k : Journal} {n p o r : ℕ} {xs : List Parsed} {t : List ℕ} (line : List ℕ) → ((s : List ℕ) → CheckLine j k (n + 1) p o r s → s ≡ line)
+next-check : {j k : Journal} {n p o r : ℕ} {xs : List Parsed} {t : List ℕ} (line : List ℕ)
+    → ((s : List ℕ) → CheckLine j k (n + 1) p o r s → s ≡ line)
     → Allowed step j k n (Ask p o r ∷ xs) t → Next line j k (n + 1) xs t
 next-check line is (next {rest = rest} t e r) = record { rest = rest; is = ap (λ (l : List ℕ). l ++ rest) (is t e); then = r }
 

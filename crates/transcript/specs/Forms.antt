@@ -6,18 +6,20 @@ use Rattle.lines.specs.Bytes.{bytes}
 use Rattle.lines.specs.Show.{shown}
 use Rattle.output.specs.Output.{morePersons, dashes, lineText, lastOutput}
 
+-- a unit's yes or no, as text
 abbrev pub yesNo : Bool → List ℕ
 yesNo b = cond b (bytes "yes") (bytes "no")
 
--- line n: as in 'list=0 row=0 chain=0', 'list=- row=- chain=0', 'list=3 row=3 chain=3 depth=- via=-', 'list=no row=no chain=no depth=- via=-'
--- and 'list=no row=no chain=yes depth=0 via=3,4'
+-- line n: as in 'list=0 row=0 chain=0', 'list=- row=- chain=0', 'list=3 row=3 chain=3 depth=- via=-',
+-- 'list=no row=no chain=no depth=- via=-' and 'list=no row=no chain=yes depth=0 via=3,4'
 pub data Form (n : ℕ) : List ℕ → Type 0 where
   numbers : (a : ℕ) → Form n (lineText n (shown a) (shown a) (shown a) [])
   passed : (a : ℕ) → Form n (lineText n (bytes "-") (bytes "-") (shown a) [])
   refused : (a : ℕ) → Form n (lineText n (shown a) (shown a) (shown a) dashes)
   no : (b : Bool) → Form n (lineText n (yesNo b) (yesNo b) (bytes "no") dashes)
   yes : (b : Bool) (depth p : ℕ) (ps : List ℕ)
-      → Form n (lineText n (yesNo b) (yesNo b) (bytes "yes") (bytes " depth=" ++ (shown depth ++ (bytes " via=" ++ (shown p ++ morePersons ps)))))
+      → Form n
+      (lineText n (yesNo b) (yesNo b) (bytes "yes") (bytes " depth=" ++ (shown depth ++ (bytes " via=" ++ (shown p ++ morePersons ps)))))
 
 -- k lines after n, and the last
 pub data Formed : ℕ → ℕ → List ℕ → Type 0 where

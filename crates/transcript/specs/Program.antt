@@ -3,7 +3,7 @@ use mathlib.Core.List.{List, [], _∷_, _++_, map}
 use Prim.Native.Nat.{ℕ, _+_}
 use Rattle.agreement.specs.Agreement.{Units, freshUnits, called}
 use Rattle.lines.specs.declared.Parsed.{Parsed}
-use Rattle.lines.specs.Collect.{linesFrom, linesOf, parsedOf}
+use Rattle.lines.specs.Collect.{linesOf, parsedOf}
 use Rattle.lines.specs.Chunks.{pieces, emptyWith, collected}
 use Rattle.output.specs.Output.{outputLine, lastOutput, reply, offeredSaid, checkSaid, checkTail, malformedReply, lentBuffer}
 use Rattle.model.specs.Answers.{flat}
@@ -51,10 +51,6 @@ asksOf s = map parsedOf (linesOf s)
 -- 'The program reads standard input into fresh units'
 unfoldable pub outputOf : List ℕ → List ℕ
 outputOf s = outputFrom 0 freshUnits (asksOf s)
-
--- the output still due after n lines, with the units u, where the bytes l of a line came already and the bytes s are to come
-abbrev pub outputDue : ℕ → Units → List ℕ → List ℕ → List ℕ
-outputDue n u l s = outputFrom n u (map parsedOf (linesFrom l s))
 
 -- the output of the program that gets its input in chunks, over a line buffer
 abbrev pub outputOfChunks : List ℕ → List (List ℕ) → List ℕ

@@ -31,13 +31,15 @@ commandLine j k n c = outputLine n (reply (flatAnswer k c) (flatAnswer k c) (Num
 -- line n, after a check of person p on item o, right r
 pub data CheckLine (j k : Journal) (n p o r : ℕ) : List ℕ → Type 0 where
   -- 'A refused check shows its number in all three and `-` in the rest'
-  refused : (asked p o r ≡ 0 → ⊥) → CheckLine j k n p o r (outputLine n (reply (Number (asked p o r)) (Number (asked p o r)) (Number (asked p o r)) Dashes) [])
+  refused : (asked p o r ≡ 0 → ⊥)
+      → CheckLine j k n p o r (outputLine n (reply (Number (asked p o r)) (Number (asked p o r)) (Number (asked p o r)) Dashes) [])
   -- no chain is there
   none : asked p o r ≡ 0 → ((ps : List ℕ) (a : ℕ) → JournalChain j o r ps p a → ⊥)
       → CheckLine j k n p o r (outputLine n (reply (grantSaid k p o r) (grantSaid k p o r) No Dashes) [])
   -- a chain with the greatest last allowance of any: that depth, and its persons
   found : asked p o r ≡ 0 → (g : Greatest (λ ps a. JournalChain j o r ps p a))
-      → CheckLine j k n p o r (outputLine n (reply (grantSaid k p o r) (grantSaid k p o r) Yes (Chain (g .depth) (length (g .persons)))) (g .persons))
+      → CheckLine j k n p o r
+      (outputLine n (reply (grantSaid k p o r) (grantSaid k p o r) Yes (Chain (g .depth) (length (g .persons)))) (g .persons))
 
 -- line n, for what is asked
 abbrev pub LineAllowed : Journal → Journal → ℕ → Parsed → List ℕ → Type 0

@@ -1,3 +1,5 @@
+-- In each arm both images are as the verb, which the match has told, leaves them (`arm`). A loan that the table let through finds the
+-- table of loans in order, and room in it, since row 10 does not hold (`room`).
 use borrow.Author.Needs.{needs}
 use mathlib.Core.Path.{ap, _∙_}
 use mathlib.Core.Bool.{not}
@@ -42,7 +44,8 @@ loan-word-requires c κs = search needs
 insert-requires : tie.Need-insert-requires
 insert-requires c κs =
     let start = c .before .before .before .before .before .before in
-    room (start .args .grants .now) (start .args .loans .now) (rawOf (start .args .t)) _ (c .loan-word .ensures) (c .before .before .enum-told5 .given .1) (start .pre)
+    room (start .args .grants .now) (start .args .loans .now) (rawOf (start .args .t)) _ (c .loan-word .ensures)
+    (c .before .before .enum-told5 .given .1) (start .pre)
 
 enum-told-6 : tie.Need-enum-told-6
 enum-told-6 c = search needs
@@ -59,7 +62,8 @@ same-length c = search needs
 returns : tie.Need-returns
 returns c =
     let start = c .before .before .before .before .before .before .before .before in
-    arm (images (start .args .grants .now) (start .args .loans .now)) _ (rawOf (start .args .t)) _ (c .before .before .before .before .enum-told .given .1)
+    arm (images (start .args .grants .now) (start .args .loans .now)) _ (rawOf (start .args .t)) _
+    (c .before .before .before .before .enum-told .given .1)
     (ap (λ g. images g (start .args .loans .now)) (c .before .before .put-item .ensures))
 
 same-length-2 : tie.Need-same-length-2
@@ -71,7 +75,8 @@ same-length-3 c = search needs
 returns-2 : tie.Need-returns-2
 returns-2 c =
     let start = c .before .before .before .before .before .before .before .before .before .before .before in
-    arm (images (start .args .grants .now) (start .args .loans .now)) _ (rawOf (start .args .t)) _ (c .before .before .before .before .before .before .before .enum-told2 .given .1)
+    arm (images (start .args .grants .now) (start .args .loans .now)) _ (rawOf (start .args .t)) _
+    (c .before .before .before .before .before .before .before .enum-told2 .given .1)
     (c .before .before .before .before .drop-item .ensures)
 
 same-length-4 : tie.Need-same-length-4
@@ -80,7 +85,8 @@ same-length-4 c = search needs
 returns-3 : tie.Need-returns-3
 returns-3 c =
     let start = c .before .before .before .before .before .before .before .before in
-    arm (images (start .args .grants .now) (start .args .loans .now)) _ (rawOf (start .args .t)) _ (c .before .before .before .before .enum-told3 .given .1)
+    arm (images (start .args .grants .now) (start .args .loans .now)) _ (rawOf (start .args .t)) _
+    (c .before .before .before .before .enum-told3 .given .1)
     (ap (λ g. images g (start .args .loans .now)) (c .before .before .put-grant .ensures))
 
 same-length-5 : tie.Need-same-length-5
@@ -89,7 +95,8 @@ same-length-5 c = search needs
 returns-4 : tie.Need-returns-4
 returns-4 c =
     let start = c .before .before .before .before .before .before .before .before in
-    arm (images (start .args .grants .now) (start .args .loans .now)) _ (rawOf (start .args .t)) _ (c .before .before .before .before .enum-told4 .given .1)
+    arm (images (start .args .grants .now) (start .args .loans .now)) _ (rawOf (start .args .t)) _
+    (c .before .before .before .before .enum-told4 .given .1)
     (ap (λ g. images g (start .args .loans .now)) (c .before .before .drop-grants .ensures))
 
 same-length-6 : tie.Need-same-length-6
@@ -98,8 +105,10 @@ same-length-6 c = search needs
 returns-5 : tie.Need-returns-5
 returns-5 c =
     let start = c .before .before .before .before .before .before .before .before .before in
-    arm (images (start .args .grants .now) (start .args .loans .now)) _ (rawOf (start .args .t)) _ (c .before .before .before .before .before .enum-told5 .given .1)
-    (ap (images (start .args .grants .now)) (c .before .before .insert .ensures ∙ ap (λ w. loansWith w (start .args .loans .now)) (c .before .before .before .loan-word .ensures)))
+    arm (images (start .args .grants .now) (start .args .loans .now)) _ (rawOf (start .args .t)) _
+    (c .before .before .before .before .before .enum-told5 .given .1)
+    (ap (images (start .args .grants .now))
+    (c .before .before .insert .ensures ∙ ap (λ w. loansWith w (start .args .loans .now)) (c .before .before .before .loan-word .ensures)))
 
 same-length-7 : tie.Need-same-length-7
 same-length-7 c = search needs
@@ -107,8 +116,11 @@ same-length-7 c = search needs
 returns-6 : tie.Need-returns-6
 returns-6 c =
     let start = c .before .before .before .before .before .before .before .before .before in
-    arm (images (start .args .grants .now) (start .args .loans .now)) _ (rawOf (start .args .t)) _ (c .before .before .before .before .before .enum-told6 .given .1)
-    (ap (images (start .args .grants .now)) (c .before .before .drop-loan .ensures ∙ ap (λ w. loansKept (λ x. not (eqb w x)) (start .args .loans .now)) (c .before .before .before .loan-word2 .ensures)))
+    arm (images (start .args .grants .now) (start .args .loans .now)) _ (rawOf (start .args .t)) _
+    (c .before .before .before .before .before .enum-told6 .given .1)
+    (ap (images (start .args .grants .now))
+    (c .before .before .drop-loan .ensures
+    ∙ ap (λ w. loansKept (λ x. not (eqb w x)) (start .args .loans .now)) (c .before .before .before .loan-word2 .ensures)))
 
 pub apply-spec : {M : Type 1} → statement M
 apply-spec =

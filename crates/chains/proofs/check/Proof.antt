@@ -1,8 +1,9 @@
+-- A refusal by numbers 1 to 3 has its number (`chain-check-refused`); past them the images have the shape that the search asks for
+-- (`in-shape`), and what it finds is the answer (`chain-check-says`).
 use borrow.Author.Needs.{needs}
-use mathlib.Core.Path.{refl, sym, _∙_}
-use Rattle.delegation.proofs.ChainEnds.{chain-check-stops, chain-check-beyond, chain-check-says}
+use mathlib.Core.Path.{sym, _∙_}
 use Rattle.delegation.specs.Images.{images}
-use Rattle.model.specs.declared.Answer.the-variants.{OutOfRange}
+use Rattle.delegation.proofs.ChainEnds.{chain-check-refused, chain-check-says}
 use Rattle.chains.proofs.Judging.{in-shape}
 use Rattle.chains.proofs.check.Statement.{statement}
 use Rattle.chains.proofs.check.Tie as tie
@@ -10,56 +11,55 @@ use Rattle.chains.proofs.check.Tie as tie
 order-requires : tie.Need-order-requires
 order-requires c κs = search needs
 
-number-requires : tie.Need-number-requires
-number-requires c κs = search needs
+check-requires : tie.Need-check-requires
+check-requires c κs = search needs
 
-returns : tie.Need-returns
-returns c =
-    let start = c .before .before .before .before .before .before in
-    chain-check-stops (images (start .args .grants .now) (start .args .loans .now)) (start .args .chain .now) (start .args .who) (start .args .on) (start .args .right) (c .before .before .order .result) (c .before .before .order .ensures) (λ z. c .if1 .taken (c .before .number .ensures ∙ z))
+enum-known-a : tie.Need-enum-known-a
+enum-known-a c = search needs
 
-read-requires : tie.Need-read-requires
-read-requires c κs = search needs
-
-enum-told : tie.Need-enum-told
-enum-told c = search needs
-
-enum-known-q : tie.Need-enum-known-q
-enum-known-q c = search needs
+enum-known-a-2 : tie.Need-enum-known-a-2
+enum-known-a-2 c = search needs
 
 best-requires : tie.Need-best-requires
 best-requires c κs =
-    let start = c .before .before .before .before .before .before .before .before .before .before .before in
-    in-shape (images (start .args .grants .now) (start .args .loans .now)) (start .args .chain .now) (start .args .who) (start .args .on) (start .args .right) _ _ _ (sym (c .before .before .before .before .read .ensures) ∙ c .before .before .q .given .1)
-    (sym (c .before .before .before .before .before .before .before .order .ensures) ∙ sym (c .before .before .before .before .before .before .number .ensures) ∙ c .before .before .before .before .before .if1 .left)
+    let arm = c .before .before in
+    let start = arm .before .before .before .before .before .before .before in
+    let order = arm .before .before .before .order in
+    in-shape (images (start .args .grants .now) (start .args .loans .now)) (start .args .chain .now)
+    (start .args .who) (start .args .on) (start .args .right) (order .result) (order .ensures) _ _ _
+    (sym (arm .a2 .given .1) ∙ arm .before .before .check .ensures)
 
-returns-2 : tie.Need-returns-2
-returns-2 c =
-    let start = c .before .before .before .before .before .before .before .before .before in
-    chain-check-beyond (images (start .args .grants .now) (start .args .loans .now)) (start .args .chain .now) (start .args .who) (start .args .on) (start .args .right) OutOfRange refl (sym (c .before .before .before .before .before .order .ensures) ∙ sym (c .before .before .before .before .number .ensures) ∙ c .before .before .before .if1 .left)
-    (sym (c .before .before .read .ensures) ∙ c .enum-told .given .1)
+returns : tie.Need-returns
+returns c =
+    let arm = c .before in
+    let start = arm .before .before .before .before .before .before .before in
+    let order = arm .before .before .before .order in
+    chain-check-refused (images (start .args .grants .now) (start .args .loans .now)) (start .args .chain .now)
+    (start .args .who) (start .args .on) (start .args .right) (order .result) (order .ensures) _
+    (sym (arm .a .given .1) ∙ arm .before .before .check .ensures)
 
 same-length : tie.Need-same-length
 same-length c = search needs
 
-returns-3 : tie.Need-returns-3
-returns-3 c =
-    let start = c .before .before .before .before .before .before .before .before .before .before .before .before .before .before in
+returns-2 : tie.Need-returns-2
+returns-2 c =
+    let arm = c .before .before .before .before .before in
+    let start = arm .before .before .before .before .before .before .before in
+    let order = arm .before .before .before .order in
     let f = c .before .before .best .ensures in
-    chain-check-says (images (start .args .grants .now) (start .args .loans .now)) (start .args .chain .now) (start .args .who) (start .args .on) (start .args .right) _ _ _ _ _ (sym (c .before .before .before .before .before .before .before .before .before .before .order .ensures) ∙ sym (c .before .before .before .before .before .before .before .before .before .number .ensures) ∙ c .before .before .before .before .before .before .before .before .if1 .left)
-    (sym (c .before .before .before .before .before .before .before .read .ensures) ∙ c .before .before .before .before .before .q .given .1) (f .0) (f .1)
+    chain-check-says (images (start .args .grants .now) (start .args .loans .now)) (start .args .chain .now)
+    (start .args .who) (start .args .on) (start .args .right) (order .result) (order .ensures) _ _ _
+    (sym (arm .a2 .given .1) ∙ arm .before .before .check .ensures) _ _ (f .0) (f .1)
 
 pub check-spec : {M : Type 1} → statement M
 check-spec =
     tie.close
     (tie.spec
     order-requires
-    number-requires
-    returns
-    read-requires
-    enum-told
-    enum-known-q
+    check-requires
+    enum-known-a
+    enum-known-a-2
     best-requires
-    returns-2
+    returns
     same-length
-    returns-3)
+    returns-2)

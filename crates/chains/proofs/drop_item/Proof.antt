@@ -1,3 +1,5 @@
+-- The item is out of both images, each by its own step (`stepped`); the table of loans has the right length, so the pass over it was
+-- made (`kept-loans`).
 use borrow.Author.Needs.{needs}
 use Rattle.delegation.specs.Images.{images}
 use Rattle.chains.specs.Ready.{withoutItem}
@@ -20,7 +22,8 @@ same-length-2 c = search needs
 returns : tie.Need-returns
 returns c =
     let start = c .before .before .before .before .before .before .before .before .before .before in
-    stepped (withoutItem (images (start .args .grants .now) (start .args .loans .now)) (start .args .on .0)) (c .before .before .before .before .before .before .drop-item .ensures)
+    stepped (withoutItem (images (start .args .grants .now) (start .args .loans .now)) (start .args .on .0))
+    (c .before .before .before .before .before .before .drop-item .ensures)
     (kept-loans (start .args .loans .now) _ _ (start .pre .1) (c .before .before .retain .ensures .0))
 
 pub drop-item-spec : {M : Type 1} → statement M

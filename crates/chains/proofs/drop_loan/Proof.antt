@@ -10,7 +10,9 @@ same-length : tie.Need-same-length
 same-length c = search needs
 
 returns : tie.Need-returns
-returns c = let start = c .before .before .before .before .before in kept-loans (start .args .loans .now) _ _ (start .pre) (c .before .before .retain .ensures .0)
+returns c =
+    let start = c .before .before .before .before .before in
+    kept-loans (start .args .loans .now) _ _ (start .pre) (c .before .before .retain .ensures .0)
 
 pub drop-loan-spec : {M : Type 1} → statement M
 drop-loan-spec = tie.close (tie.spec retain-requires same-length returns)

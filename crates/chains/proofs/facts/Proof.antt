@@ -1,3 +1,5 @@
+-- Three bits of the live set, the edit right of the one who commands, and whether the loans are full for the loan's word: field by
+-- field what the table asks (`facts-are`).
 use borrow.Author.Needs.{needs}
 use Rattle.model.specs.Commands.{rawOf}
 use Rattle.layouts.specs.Layouts.{grantBytes}
@@ -31,8 +33,10 @@ returns : tie.Need-returns
 unfolding grantBytes
 returns c =
     let start = c .before .before .before .before .before .before .before .before .before .before .before .before in
-    facts-are (images (start .args .grants .now) (start .args .loans .now)) (rawOf (start .args .t)) _ _ _ _ _ _ _ (c .before .before .before .before .before .before .edit .ensures) (c .before .before .before .before .before .loan-word .ensures)
-    (c .before .before .before .before .is-live .ensures) (c .before .before .before .is-live2 .ensures) (c .before .before .is-live3 .ensures) (c .before .holds .ensures) (c .is-full .ensures)
+    facts-are (images (start .args .grants .now) (start .args .loans .now)) (rawOf (start .args .t)) _ _ _ _ _ _ _
+    (c .before .before .before .before .before .before .edit .ensures) (c .before .before .before .before .before .loan-word .ensures)
+    (c .before .before .before .before .is-live .ensures) (c .before .before .before .is-live2 .ensures)
+    (c .before .before .is-live3 .ensures) (c .before .holds .ensures) (c .is-full .ensures)
 
 pub facts-spec : {M : Type 1} → statement M
 facts-spec =

@@ -1,17 +1,34 @@
+-- What numbers 1 to 3 admit decides (`command-admitted`): a refusal has its number and changes nothing; past them both images are in
+-- order, the arguments are within their limits, and what the table and the command make of it is the answer.
 use borrow.Author.Needs.{needs}
 use mathlib.Core.Path.{sym, _∙_}
-use Rattle.layouts.proofs.Ends.{ran-stops, ran-beyond, ran-judged}
+use Rattle.layouts.specs.declared.admit.CommandAdmission.the-variants as command
+use Rattle.layouts.proofs.Admission.{command-admitted}
 use Rattle.delegation.specs.ChainUnit.{chainUnit}
-use Rattle.chains.proofs.Judging.{ready}
 use Rattle.delegation.specs.Images.{images}
+use Rattle.chains.proofs.Judging.{ready}
 use Rattle.chains.proofs.offer.Statement.{statement}
 use Rattle.chains.proofs.offer.Tie as tie
 
 order-requires : tie.Need-order-requires
 order-requires c κs = search needs
 
-number-requires : tie.Need-number-requires
-number-requires c κs = search needs
+command-requires : tie.Need-command-requires
+command-requires c κs = search needs
+
+enum-known-a : tie.Need-enum-known-a
+enum-known-a c = search needs
+
+enum-known-a-2 : tie.Need-enum-known-a-2
+enum-known-a-2 c = search needs
+
+settle-requires : tie.Need-settle-requires
+settle-requires c κs =
+    let arm = c .before .before .before in
+    let start = arm .before .before .before .before .before .before .before .before in
+    let order = arm .before .before .before .order in
+    ready (images (start .args .grants .now) (start .args .loans .now)) (start .args .c) (order .result) (order .ensures) _
+    (sym (arm .a2 .given .1) ∙ arm .before .before .command .ensures)
 
 same-length : tie.Need-same-length
 same-length c = search needs
@@ -21,23 +38,12 @@ same-length-2 c = search needs
 
 returns : tie.Need-returns
 returns c =
-    let start = c .before .before .before .before .before .before .before in
-    ran-stops chainUnit (images (start .args .grants .now) (start .args .loans .now)) (start .args .c) _ (c .before .before .order .ensures) (λ z. c .if1 .taken (c .before .number .ensures ∙ z))
-
-within-requires : tie.Need-within-requires
-within-requires c κs = search needs
-
-enum-told : tie.Need-enum-told
-enum-told c = search needs
-
-enum-known-w : tie.Need-enum-known-w
-enum-known-w c = search needs
-
-settle-requires : tie.Need-settle-requires
-settle-requires c κs =
-    let start = c .before .before .before .before .before .before .before .before .before .before .before .before .before in
-    ready (images (start .args .grants .now) (start .args .loans .now)) (start .args .c) _ (sym (c .before .before .before .before .before .before .before .before .order .ensures) ∙ sym (c .before .before .before .before .before .before .before .number .ensures) ∙ c .before .before .before .before .before .before .if1 .left)
-    (sym (c .before .before .before .before .before .within .ensures) ∙ c .before .before .before .w .given .1)
+    let arm = c .before in
+    let start = arm .before .before .before .before .before .before .before .before in
+    let order = arm .before .before .before .order in
+    command-admitted chainUnit (images (start .args .grants .now) (start .args .loans .now)) (start .args .c) (order .result)
+    (order .ensures)
+    (command.Refused _) (sym (arm .a .given .1) ∙ arm .before .before .command .ensures)
 
 same-length-3 : tie.Need-same-length-3
 same-length-3 c = search needs
@@ -47,38 +53,26 @@ same-length-4 c = search needs
 
 returns-2 : tie.Need-returns-2
 returns-2 c =
-    let start = c .before .before .before .before .before .before .before .before .before .before in
-    ran-beyond chainUnit (images (start .args .grants .now) (start .args .loans .now)) (start .args .c) (sym (c .before .before .before .before .before .order .ensures) ∙ sym (c .before .before .before .before .number .ensures) ∙ c .before .before .before .if1 .left)
-    (sym (c .before .before .within .ensures) ∙ c .enum-told .given .1)
-
-same-length-5 : tie.Need-same-length-5
-same-length-5 c = search needs
-
-same-length-6 : tie.Need-same-length-6
-same-length-6 c = search needs
-
-returns-3 : tie.Need-returns-3
-returns-3 c =
-    let start = c .before .before .before .before .before .before .before .before .before .before .before .before .before .before .before .before .before .before in
-    ran-judged chainUnit (images (start .args .grants .now) (start .args .loans .now)) (start .args .c) _ _ _ (sym (c .before .before .before .before .before .before .before .before .before .before .before .before .before .order .ensures) ∙ sym (c .before .before .before .before .before .before .before .before .before .before .before .before .number .ensures) ∙ c .before .before .before .before .before .before .before .before .before .before .before .if1 .left)
-    (sym (c .before .before .before .before .before .before .before .before .before .before .within .ensures) ∙ c .before .before .before .before .before .before .before .before .w .given .1) (c .before .before .before .before .settle .ensures)
+    let arm = c .before .before .before .before .before .before .before .before in
+    let start = arm .before .before .before .before .before .before .before .before in
+    let order = arm .before .before .before .order in
+    command-admitted chainUnit (images (start .args .grants .now) (start .args .loans .now)) (start .args .c) (order .result)
+    (order .ensures)
+    (command.Ready _) (sym (arm .a2 .given .1) ∙ arm .before .before .command .ensures) .2 _ _
+    (c .before .before .before .before .settle .ensures)
 
 pub offer-spec : {M : Type 1} → statement M
 offer-spec =
     tie.close
     (tie.spec
     order-requires
-    number-requires
+    command-requires
+    enum-known-a
+    enum-known-a-2
+    settle-requires
     same-length
     same-length-2
     returns
-    within-requires
-    enum-told
-    enum-known-w
-    settle-requires
     same-length-3
     same-length-4
-    returns-2
-    same-length-5
-    same-length-6
-    returns-3)
+    returns-2)

@@ -1,3 +1,5 @@
+-- The table is asked about the facts of the images: another number than 0 leaves both (`judged-stops`); 0 means that the command is
+-- accepted (`accepted`), and it is applied (`judged-goes`).
 use borrow.Author.Needs.{needs}
 use Rattle.layouts.proofs.Ends.{judged-stops, judged-goes}
 use Rattle.delegation.specs.ChainUnit.{chainUnit}
@@ -25,12 +27,15 @@ same-length-2 c = search needs
 returns : tie.Need-returns
 returns c =
     let start = c .before .before .before .before .before .before .before .before in
-    judged-stops chainUnit (images (start .args .grants .now) (start .args .loans .now)) (rawOf (start .args .t)) _ _ _ (c .before .before .before .facts .ensures) (c .before .before .judge .ensures) (c .before .number .ensures) (c .if1 .taken)
+    judged-stops chainUnit (images (start .args .grants .now) (start .args .loans .now)) (rawOf (start .args .t)) _ _ _
+    (c .before .before .before .facts .ensures) (c .before .before .judge .ensures) (c .before .number .ensures) (c .if1 .taken)
 
 apply-requires : tie.Need-apply-requires
 apply-requires c κs =
     let start = c .before .before .before .before .before .before .before .before .before .before in
-    accepted (images (start .args .grants .now) (start .args .loans .now)) (rawOf (start .args .t)) _ _ _ (start .pre) (c .before .before .before .before .before .facts .ensures) (c .before .before .before .before .judge .ensures) (c .before .before .before .number .ensures) (c .before .before .if1 .left)
+    accepted (images (start .args .grants .now) (start .args .loans .now)) (rawOf (start .args .t)) _ _ _ (start .pre)
+    (c .before .before .before .before .before .facts .ensures) (c .before .before .before .before .judge .ensures)
+    (c .before .before .before .number .ensures) (c .before .before .if1 .left)
 
 same-length-3 : tie.Need-same-length-3
 same-length-3 c = search needs
@@ -41,7 +46,11 @@ same-length-4 c = search needs
 returns-2 : tie.Need-returns-2
 returns-2 c =
     let start = c .before .before .before .before .before .before .before .before .before .before .before .before .before .before .before in
-    judged-goes chainUnit (images (start .args .grants .now) (start .args .loans .now)) (rawOf (start .args .t)) _ _ _ _ (c .before .before .before .before .before .before .before .before .before .before .facts .ensures) (c .before .before .before .before .before .before .before .before .before .judge .ensures) (c .before .before .before .before .before .before .before .before .number .ensures) (c .before .before .before .before .before .before .before .if1 .left) (c .before .before .before .before .apply .ensures)
+    judged-goes chainUnit (images (start .args .grants .now) (start .args .loans .now)) (rawOf (start .args .t)) _ _ _ _
+    (c .before .before .before .before .before .before .before .before .before .before .facts .ensures)
+    (c .before .before .before .before .before .before .before .before .before .judge .ensures)
+    (c .before .before .before .before .before .before .before .before .number .ensures)
+    (c .before .before .before .before .before .before .before .if1 .left) (c .before .before .before .before .apply .ensures)
 
 pub settle-spec : {M : Type 1} → statement M
 settle-spec =

@@ -1,3 +1,5 @@
+-- After n turns the number holds the highest n of the eight bytes, so before each turn it is below 2 ^ 56 and does not overflow
+-- (`eight-room`); a turn puts the next byte below them (`eight-more`). At the end n is 8.
 use mathlib.Core.Path.{_≡_, refl, ap, _∙_}
 use Prim.Native.Nat.{ℕ, _+_, _-_, _*_, _≤_}
 use native.Mathlib.Omega.{arith}
@@ -50,14 +52,19 @@ loop-less c = search needs
 loop-again : tie.Need-loop-again Inv-loop μ-loop
 loop-again c =
     let l = c .before .before .loop in
-    let a = c .before .before .before .args in
-    (search needs, eight-more (a .source .now) (a .first) (l .n) (l .bits) _ (c .before .loop-test .taken) (l .inv .1) (omega (arith, c .shared-slice-known .given (a .first + 7 - l .n))) refl)
+    let a = c .before .before .before .args in (
+      search needs,
+      eight-more (a .source .now) (a .first) (l .n) (l .bits) _ (c .before .loop-test .taken) (l .inv .1)
+          (omega (arith, c .shared-slice-known .given (a .first + 7 - l .n))) refl,
+    )
 
 returns : tie.Need-returns Inv-loop μ-loop
 returns c =
     let l = c .before .loop in
     let e : l .n ≡ 8 = omega arith in
-    (rw e at (l .inv .1)) ∙ ofBits-cong 64 _ _ (λ i h. ap (at 8 (c .before .before .args .source .now)) (let z : 8 * (c .before .before .args .first + 8 - 8) + i ≡ 8 * c .before .before .args .first + i = omega arith in z))
+    (rw e at (l .inv .1)) ∙ ofBits-cong 64 _ _
+    (λ i h. ap (at 8 (c .before .before .args .source .now))
+    (let z : 8 * (c .before .before .args .first + 8 - 8) + i ≡ 8 * c .before .before .args .first + i = omega arith in z))
 
 pub eight-spec : {M : Type 1} → statement M
 eight-spec =

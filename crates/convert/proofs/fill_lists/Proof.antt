@@ -1,3 +1,5 @@
+-- After t turns the target is the image to come without the blocks from t on (`lacking`, `ahead`), a block being eight bytes of a
+-- row. Each place is of one of 512 blocks, so at the end none is missing (`lists-end`).
 use mathlib.Core.Path.{_≡_, sym, ap, _∙_}
 use Prim.Native.Nat.{_-_, _≤_}
 use native.Mathlib.Omega.{arith}
@@ -13,7 +15,8 @@ use Rattle.convert.proofs.fill_lists.Statement.{statement}
 use Rattle.convert.proofs.fill_lists.Tie as tie
 
 abbrev Inv-loop : tie.InvT-loop
-Inv-loop target₀ source t₀ target t = (t ≤ 512) × (length target ≡ 513) × (target ≡ lacking 64 513 (ahead eights t) (convert rows lists source))
+Inv-loop target₀ source t₀ target t =
+    (t ≤ 512) × (length target ≡ 513) × (target ≡ lacking 64 513 (ahead eights t) (convert rows lists source))
 
 abbrev μ-loop : tie.MeasureT-loop
 μ-loop target₀ source t₀ target t = 512 - t
@@ -22,10 +25,16 @@ start-lists-requires : tie.Need-start-lists-requires Inv-loop μ-loop
 start-lists-requires c κs = search needs
 
 loop-holds : tie.Need-loop-holds Inv-loop μ-loop
-loop-holds c = (search needs, ap length (c .before .before .start-lists .ensures) ∙ lacking-length 64 513 (omega arith) _ _, c .before .before .start-lists .ensures)
+loop-holds c = (
+  search needs,
+  ap length (c .before .before .start-lists .ensures)
+      ∙ lacking-length 64 513 (omega arith) _ _,
+  c .before .before .start-lists .ensures,
+)
 
 put-eight-requires : tie.Need-put-eight-requires Inv-loop μ-loop
-put-eight-requires c κs = (c .before .before .before .before .before .before .before .before .before .pre .0, c .before .loop-test .taken, c .before .before .loop .inv .2)
+put-eight-requires c κs =
+    (c .before .before .before .before .before .before .before .before .before .pre .0, c .before .loop-test .taken, c .before .before .loop .inv .2)
 
 add-t : tie.Need-add-t Inv-loop μ-loop
 add-t c = search needs
@@ -34,7 +43,12 @@ loop-less : tie.Need-loop-less Inv-loop μ-loop
 loop-less c = search needs
 
 loop-again : tie.Need-loop-again Inv-loop μ-loop
-loop-again c = (search needs, ap length (c .before .before .put-eight .ensures) ∙ lacking-length 64 513 (omega arith) _ _, c .before .before .put-eight .ensures)
+loop-again c = (
+  search needs,
+  ap length (c .before .before .put-eight .ensures)
+      ∙ lacking-length 64 513 (omega arith) _ _,
+  c .before .before .put-eight .ensures,
+)
 
 same-length : tie.Need-same-length Inv-loop μ-loop
 same-length c = c .before .loop .inv .1 ∙ sym (c .before .before .before .before .before .before .before .before .pre .1)

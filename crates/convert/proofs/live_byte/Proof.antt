@@ -1,3 +1,5 @@
+-- After i turns the byte has the first i bits of byte k of the rows to come (`bits-step`), since the live set is the same 64 bits in
+-- both layouts (`row-live`). Eight bits are the whole byte (`convert-cell`).
 use mathlib.Core.Path.{_≡_, refl, sym, _∙_}
 use Prim.Native.Nat.{ℕ, _+_, _-_, _*_, _%_, _≤_}
 use native.Mathlib.Omega.{arith}
@@ -50,14 +52,22 @@ loop-less c = search needs
 loop-again : tie.Need-loop-again Inv-loop μ-loop
 loop-again c =
     let l = c .before .before .before .before .loop in
-    let a = c .before .before .before .before .before .before .args in
-    (search needs, bits-step (l .bits) _ (l .i) _ _ (λ (b : ℕ). at 8 (convert lists rows (a .source .now)) (a .k * 8 + b)) (l .inv .1) (let e : l .i % 8 ≡ l .i = omega arith in e) (c .before .has .ensures ∙ sym (row-live (a .source .now) (a .k) (l .i) (c .before .before .before .before .before .before .pre .1) (c .before .before .before .loop-test .taken))) (c .with-if .ensures))
+    let a = c .before .before .before .before .before .before .args in (
+      search needs,
+      bits-step (l .bits) _ (l .i) _ _ (λ (b : ℕ). at 8 (convert lists rows (a .source .now)) (a .k * 8 + b)) (l .inv .1)
+          (let e : l .i % 8 ≡ l .i = omega arith in e)
+          (c .before .has .ensures ∙ sym (row-live (a .source .now) (a .k) (l .i)
+          (c .before .before .before .before .before .before .pre .1)
+          (c .before .before .before .loop-test .taken))) (c .with-if .ensures),
+    )
 
 returns : tie.Need-returns Inv-loop μ-loop
 unfolding lists rows
 returns c =
     let e : c .before .loop .i ≡ 8 = omega arith in
-    (rw e at (c .before .loop .inv .1)) ∙ convert-cell lists rows lists-flat rows-flat (c .before .before .before .args .source .now) (c .before .before .before .args .k) (omega arith)
+    (rw e at (c .before .loop .inv .1))
+    ∙ convert-cell lists rows lists-flat rows-flat (c .before .before .before .args .source .now) (c .before .before .before .args .k)
+    (omega arith)
 
 pub live-byte-spec : {M : Type 1} → statement M
 live-byte-spec =

@@ -1,3 +1,4 @@
+-- After i turns the word is the first i lists of the item ORed (`or-step`); at the end that is all eight.
 use mathlib.Core.Path.{_≡_, refl, sym}
 use Prim.Native.Nat.{ℕ, _+_, _-_, _*_, _≤_}
 use native.Mathlib.Omega.{arith}

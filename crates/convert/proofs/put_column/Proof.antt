@@ -1,3 +1,5 @@
+-- The target lacks, of this item, the persons still in `rest` (`pending`): at first all with a right on it, since others have no bit
+-- there (`rows-open`). A turn puts one person's byte in (`rows-put`), and `rest` grows smaller until it is 0 (`rows-close`).
 use mathlib.Core.Path.{_≡_, sym, ap, _∙_}
 use native.Mathlib.Omega.{arith}
 use borrow.Author.Needs.{needs}
@@ -12,7 +14,8 @@ use Rattle.convert.proofs.put_column.Statement.{statement}
 use Rattle.convert.proofs.put_column.Tie as tie
 
 abbrev Inv-loop : tie.InvT-loop
-Inv-loop target₀ source on rest₀ target rest = (length target ≡ 4104) × (target ≡ lacking 8 4104 (pending (rows .item) (rows .person) on rest) (convert lists rows source))
+Inv-loop target₀ source on rest₀ target rest =
+    (length target ≡ 4104) × (target ≡ lacking 8 4104 (pending (rows .item) (rows .person) on rest) (convert lists rows source))
 
 abbrev μ-loop : tie.MeasureT-loop
 μ-loop target₀ source on rest₀ target rest = rest
@@ -59,11 +62,15 @@ loop-again c =
     let l = c .before .before .before .before .loop in
     let a = c .before .before .before .before .before .before .before .before .args in
     let p = c .before .before .before .before .before .before .before .before .pre in
-    let q = c .before .before .lowest .ensures in
-    (simp length-set (l .inv .0), rows-put (a .source .now) (a .on) _ (l .rest) _ _ (l .target) (p .1) (q .1) (l .inv .1) (c .before .row-byte .ensures) (c .without-lowest .ensures .0 ∙ ap (withoutBit (l .rest)) (sym (q .0))))
+    let q = c .before .before .lowest .ensures in (
+      simp length-set (l .inv .0),
+      rows-put (a .source .now) (a .on) _ (l .rest) _ _ (l .target) (p .1) (q .1) (l .inv .1)
+          (c .before .row-byte .ensures) (c .without-lowest .ensures .0 ∙ ap (withoutBit (l .rest)) (sym (q .0))),
+    )
 
 same-length : tie.Need-same-length Inv-loop μ-loop
-same-length c = c .before .loop .inv .0 ∙ sym (ap length (c .before .before .before .before .before .pre .2) ∙ lacking-length 8 4104 (omega arith) _ _)
+same-length c =
+    c .before .loop .inv .0 ∙ sym (ap length (c .before .before .before .before .before .pre .2) ∙ lacking-length 8 4104 (omega arith) _ _)
 
 returns : tie.Need-returns Inv-loop μ-loop
 returns c =

@@ -1,3 +1,5 @@
+-- The target lacks, of this block, the bits still in `rest` (`pending`), at first all that the eight bytes have (`lists-open`). A turn
+-- puts one of them in (`lists-put`), and `rest`, each of whose bits is one of theirs, grows smaller until it is 0 (`lists-close`).
 use mathlib.Core.Path.{_≡_, refl, sym, ap, _∙_}
 use mathlib.Core.Bool.{true}
 use Prim.Native.Nat.{ℕ, _+_, _*_}
@@ -17,7 +19,9 @@ use Rattle.convert.proofs.put_eight.Statement.{statement}
 use Rattle.convert.proofs.put_eight.Tie as tie
 
 abbrev Inv-loop : tie.InvT-loop
-Inv-loop target₀ source t p first rest₀ target rest = (length target ≡ 513) × (target ≡ lacking 64 513 (pending eights eighth t rest) (convert rows lists source)) × ((i : ℕ) → bit rest i ≡ true → bit (ofBits 64 (λ (j : ℕ). at 8 source (8 * (8 + 8 * t) + j))) i ≡ true)
+Inv-loop target₀ source t p first rest₀ target rest =
+    (length target ≡ 513) × (target ≡ lacking 64 513 (pending eights eighth t rest) (convert rows lists source))
+    × ((i : ℕ) → bit rest i ≡ true → bit (ofBits 64 (λ (j : ℕ). at 8 source (8 * (8 + 8 * t) + j))) i ≡ true)
 
 abbrev μ-loop : tie.MeasureT-loop
 μ-loop target₀ source t p first rest₀ target rest = rest
@@ -43,8 +47,12 @@ eight-requires c κs = search needs
 loop-holds : tie.Need-loop-holds Inv-loop μ-loop
 loop-holds c =
     let a = c .before .before .before .args in
-    let p = c .before .before .before .pre in
-    (ap length (p .2) ∙ lacking-length 64 513 (omega arith) _ _, p .2 ∙ lists-open (a .source .now) (a .t) _ (p .1) (c .eight .ensures), λ i h. ap (λ (x : ℕ). bit x i) (sym (c .eight .ensures)) ∙ h)
+    let p = c .before .before .before .pre in (
+      ap length (p .2) ∙ lacking-length 64 513 (omega arith) _ _,
+      p .2
+          ∙ lists-open (a .source .now) (a .t) _ (p .1) (c .eight .ensures),
+      λ i h. ap (λ (x : ℕ). bit x i) (sym (c .eight .ensures)) ∙ h,
+    )
 
 lowest-requires : tie.Need-lowest-requires Inv-loop μ-loop
 lowest-requires c κs = search needs
@@ -82,11 +90,17 @@ loop-again c =
     let a = c .before .before .before .before .before .before .before .before .before .args in
     let p = c .before .before .before .before .before .before .before .before .before .pre in
     let q = c .before .before .before .lowest .ensures in
-    let e = c .without-lowest .ensures .0 ∙ ap (withoutBit (l .rest)) (sym (q .0)) in
-    (simp length-set (l .inv .0), lists-put (a .source .now) (a .t) _ _ (l .rest) _ _ (l .target) (p .1) (q .1) refl (l .inv .1) (l .inv .2 _ (q .2)) (c .before .with .ensures) e, λ i h. l .inv .2 i (fst (bit (l .rest) i) _ (sym (bit-without (l .rest) _ i) ∙ ap (λ (x : ℕ). bit x i) (sym e) ∙ h)))
+    let e = c .without-lowest .ensures .0 ∙ ap (withoutBit (l .rest)) (sym (q .0)) in (
+      simp length-set (l .inv .0),
+      lists-put (a .source .now) (a .t) _ _ (l .rest) _ _ (l .target) (p .1) (q .1) refl (l .inv .1)
+          (l .inv .2 _ (q .2)) (c .before .with .ensures) e,
+      λ i h. l .inv .2 i
+          (fst (bit (l .rest) i) _ (sym (bit-without (l .rest) _ i) ∙ ap (λ (x : ℕ). bit x i) (sym e) ∙ h)),
+    )
 
 same-length : tie.Need-same-length Inv-loop μ-loop
-same-length c = c .before .loop .inv .0 ∙ sym (ap length (c .before .before .before .before .before .pre .2) ∙ lacking-length 64 513 (omega arith) _ _)
+same-length c =
+    c .before .loop .inv .0 ∙ sym (ap length (c .before .before .before .before .before .pre .2) ∙ lacking-length 64 513 (omega arith) _ _)
 
 returns : tie.Need-returns Inv-loop μ-loop
 returns c =

@@ -1,3 +1,4 @@
+-- Words that are all 0 but for word 0, which has the live set, are the lists to come without any block (`lists-begin`).
 use mathlib.Core.Path.{_∙_}
 use borrow.Author.Needs.{needs}
 use Rattle.bits.proofs.Sweep.{swept-zero, zeroed}
@@ -22,7 +23,8 @@ returns c =
     let start = c .before .before .before .before .before .before .before in
     let cleared = c .before .before .before .clear in
     let zero = zeroed (start .args .target .now) (cleared .last .0) (cleared .ensures) in
-    lists-begin (start .args .source .now) (cleared .last .0) _ (zero .long ∙ start .pre .1) (swept-zero (start .args .target .now) (cleared .last .0) zero) (c .eight .ensures)
+    lists-begin (start .args .source .now) (cleared .last .0) _ (zero .long ∙ start .pre .1)
+    (swept-zero (start .args .target .now) (cleared .last .0) zero) (c .eight .ensures)
 
 pub start-lists-spec : {M : Type 1} → statement M
 start-lists-spec =

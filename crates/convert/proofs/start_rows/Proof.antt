@@ -1,3 +1,5 @@
+-- After k turns the first k bytes are those of the rows to come (`Swept`), and the rest is 0 (`zeroed-all`). After 8 that is the live
+-- set, and so the rows to come without any item's grants (`rows-begin`).
 use mathlib.Core.Path.{_≡_, sym, ap, _∙_}
 use Prim.Native.Nat.{_-_, _≤_}
 use native.Mathlib.Omega.{arith}
@@ -13,7 +15,8 @@ use Rattle.convert.proofs.start_rows.Statement.{statement}
 use Rattle.convert.proofs.start_rows.Tie as tie
 
 abbrev Inv-loop : tie.InvT-loop
-Inv-loop target₀ source k₀ target k = (k ≤ 8) × (length target ≡ 4104) × Swept (λ i x. getD (convert lists rows source) i 0) target₀ k target
+Inv-loop target₀ source k₀ target k =
+    (k ≤ 8) × (length target ≡ 4104) × Swept (λ i x. getD (convert lists rows source) i 0) target₀ k target
 
 abbrev μ-loop : tie.MeasureT-loop
 μ-loop target₀ source k₀ target k = 8 - k
@@ -22,7 +25,12 @@ clear-each-requires : tie.Need-clear-each-requires Inv-loop μ-loop
 clear-each-requires c κs = search needs
 
 loop-holds : tie.Need-loop-holds Inv-loop μ-loop
-loop-holds c = (search needs, ap length (c .before .before .clear-each .ensures) ∙ length-zeroed _ _ ∙ c .before .before .before .before .before .before .pre .1, swept-none _ _)
+loop-holds c = (
+  search needs,
+  ap length (c .before .before .clear-each .ensures) ∙ length-zeroed _ _
+      ∙ c .before .before .before .before .before .before .pre .1,
+  swept-none _ _,
+)
 
 live-byte-requires : tie.Need-live-byte-requires Inv-loop μ-loop
 live-byte-requires c κs = search needs
@@ -38,8 +46,12 @@ loop-less c = search needs
 
 loop-again : tie.Need-loop-again Inv-loop μ-loop
 loop-again c =
-    let l = c .before .before .loop in
-    (search needs, simp length-set (l .inv .1), swept-more _ _ (l .k) (l .target) _ (l .inv .2) (omega (arith, l .inv .2 .long)) (c .live-byte .ensures))
+    let l = c .before .before .loop in (
+      search needs,
+      simp length-set (l .inv .1),
+      swept-more _ _ (l .k) (l .target) _ (l .inv .2) (omega (arith, l .inv .2 .long))
+          (c .live-byte .ensures),
+    )
 
 same-length : tie.Need-same-length Inv-loop μ-loop
 same-length c = c .before .loop .inv .1 ∙ sym (c .before .before .before .before .before .before .before .before .pre .1)
@@ -49,7 +61,9 @@ returns c =
     let l = c .before .loop in
     let e : l .k ≡ 8 = omega arith in
     let w = rw e at (l .inv .2) in
-    rows-begin (c .before .before .before .before .before .before .before .before .args .source .now) (l .target) (l .inv .1) (w .done) (λ i h. w .rest i h ∙ ap (λ x. getD x i 0) (c .before .before .before .before .clear-each .ensures) ∙ zeroed-all _ 4104 (c .before .before .before .before .before .before .before .before .pre .1) i)
+    rows-begin (c .before .before .before .before .before .before .before .before .args .source .now) (l .target) (l .inv .1) (w .done)
+    (λ i h. w .rest i h ∙ ap (λ x. getD x i 0) (c .before .before .before .before .clear-each .ensures)
+    ∙ zeroed-all _ 4104 (c .before .before .before .before .before .before .before .before .pre .1) i)
 
 pub start-rows-spec : {M : Type 1} → statement M
 start-rows-spec =

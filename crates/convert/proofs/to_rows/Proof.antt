@@ -1,3 +1,5 @@
+-- A target of a wrong length is refused (`convert-short`), then what looking at the lists refuses (`convert-stops`). Lists that are
+-- not refused have the right length (`readable`), so they are turned into rows (`convert-done`).
 use mathlib.Core.Path.{sym, _∙_}
 use borrow.Author.Needs.{needs}
 use Rattle.layouts.specs.Layouts.{lists, rows}
@@ -8,7 +10,8 @@ use Rattle.convert.proofs.to_rows.Tie as tie
 
 returns : tie.Need-returns
 unfolding rows
-returns c = convert-short lists rows (c .before .before .before .args .source .now) (c .before .before .before .args .target .now) (c .if1 .taken)
+returns c =
+    convert-short lists rows (c .before .before .before .args .source .now) (c .before .before .before .args .target .now) (c .if1 .taken)
 
 inspect-requires : tie.Need-inspect-requires
 inspect-requires c κs = search needs
@@ -21,13 +24,17 @@ unfolding rows
 returns-2 c =
     let start = c .before .before .before .before .before .before in
     let s = start .args .source .now in
-    convert-stops lists rows s (start .args .target .now) _ (c .before .before .before .if1 .left) (c .before .before .inspect .ensures .0 .0) (λ z. c .if2 .taken (c .before .number .ensures ∙ z))
+    convert-stops lists rows s (start .args .target .now) _ (c .before .before .before .if1 .left)
+    (c .before .before .inspect .ensures .0 .0) (λ z. c .if2 .taken (c .before .number .ensures ∙ z))
 
 fill-rows-requires : tie.Need-fill-rows-requires
 unfolding lists
 fill-rows-requires c κs =
-    let s = c .before .before .before .before .before .before .before .args .source .now in
-    (readable lists s (sym (c .before .before .before .inspect .ensures .0 .0) ∙ sym (c .before .before .number .ensures) ∙ c .before .if2 .left), search needs)
+    let s = c .before .before .before .before .before .before .before .args .source .now in (
+      readable lists s (sym (c .before .before .before .inspect .ensures .0 .0) ∙ sym (c .before .before .number .ensures)
+          ∙ c .before .if2 .left),
+      search needs,
+    )
 
 same-length : tie.Need-same-length
 same-length c = search needs
@@ -37,8 +44,10 @@ unfolding rows
 returns-3 c =
     let start = c .before .before .before .before .before .before .before .before .before .before in
     let s = start .args .source .now in
-    convert-done lists rows s (start .args .target .now) _ _ (c .before .before .before .before .before .before .before .if1 .left) (c .before .before .before .before .before .before .inspect .ensures .0 .0)
-    (sym (c .before .before .before .before .before .number .ensures) ∙ c .before .before .before .before .if2 .left) (c .before .before .fill-rows .ensures)
+    convert-done lists rows s (start .args .target .now) _ _ (c .before .before .before .before .before .before .before .if1 .left)
+    (c .before .before .before .before .before .before .inspect .ensures .0 .0)
+    (sym (c .before .before .before .before .before .number .ensures) ∙ c .before .before .before .before .if2 .left)
+    (c .before .before .fill-rows .ensures)
 
 pub to-rows-spec : {M : Type 1} → statement M
 to-rows-spec =

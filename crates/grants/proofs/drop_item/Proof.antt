@@ -1,3 +1,5 @@
+-- The places that name the item are those of its own block of 512 bytes, and its byte in each row of 64: both set to 0, with its bit
+-- taken out of the live set, are the image without it (`grants-delete`).
 use borrow.Author.Needs.{needs}
 use native.Mathlib.Omega.{arith}
 use Rattle.grants.proofs.Bytes.{grants-delete}
@@ -34,7 +36,8 @@ same-length c = search needs
 returns : tie.Need-returns
 returns c =
     let q = c .before .before .before .before .before .before .before .before .before .before .before .before .before .before in
-    grants-delete (q .args .grants .now) (q .pre .0) (λ i h. omega (arith, c .before .before .before .before .before .before .before .before .before .before .before .before .before .slice-known .given i)) (q .args .on .0) (c .before .before .before .before .before .before .before .before .number .result) _ _ _ (q .pre .1) (c .before .before .before .before .before .before .before .before .number .ensures) (c .before .before .before .before .before .before .before .before .before .before .before .remove .ensures) (c .before .before .before .before .before .before .clear-each .ensures) (c .before .before .clear-each2 .ensures)
+    grants-delete (q .args .grants .now) (q .pre .0)
+    (λ i h. omega (arith, c .before .before .before .before .before .before .before .before .before .before .before .before .before .slice-known .given i)) (q .args .on .0) (c .before .before .before .before .before .before .before .before .number .result) _ _ _ (q .pre .1) (c .before .before .before .before .before .before .before .before .number .ensures) (c .before .before .before .before .before .before .before .before .before .before .before .remove .ensures) (c .before .before .before .before .before .before .clear-each .ensures) (c .before .before .clear-each2 .ensures)
 
 pub drop-item-spec : {M : Type 1} → statement M
 drop-item-spec =

@@ -1,3 +1,5 @@
+-- A buffer of another length stays; otherwise its two bytes are written over bytes that are all 0, which makes the fresh image
+-- (`zeroed-all`, `fresh-written`).
 use borrow.Author.Needs.{needs}
 use native.Mathlib.Omega.{arith}
 use borrow.Author.Tests.{eq-eqb, ne-eqb}

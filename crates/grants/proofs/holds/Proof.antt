@@ -1,3 +1,4 @@
+-- The byte has one bit for each depth, so the person has a grant there exactly where it is not 0 (`grants-held`).
 use borrow.Author.Needs.{needs}
 use native.Mathlib.Omega.{arith}
 use Rattle.grants.proofs.Bytes.{grants-held}
@@ -14,7 +15,8 @@ returns : tie.Need-returns
 returns c =
     let q = c .before .before .before in
     let k = c .before .place .result in
-    grants-held (q .args .grants .now) (q .args .who .0) (q .args .on .0) (q .args .right .0) k (c .before .place .ensures .0) (omega (arith, c .before .before .shared-slice-known .given k))
+    grants-held (q .args .grants .now) (q .args .who .0) (q .args .on .0) (q .args .right .0) k (c .before .place .ensures .0)
+    (omega (arith, c .before .before .shared-slice-known .given k))
 
 pub holds-spec : {M : Type 1} → statement M
 holds-spec = tie.close (tie.spec place-requires shared-slice-read-result returns)

@@ -1,3 +1,4 @@
+-- The bit of the grant's place is bit `depth` of its byte, so putting it in is what allowing asks (`grants-allow`).
 use borrow.Author.Needs.{needs}
 use native.Mathlib.Omega.{arith}
 use Rattle.grants.proofs.Bytes.{grants-allow}
@@ -25,7 +26,10 @@ same-length c = search needs
 returns : tie.Need-returns
 returns c =
     let q = c .before .before .before .before .before in
-    grants-allow (q .args .grants .now) (q .pre .0) (λ i h. omega (arith, c .before .before .before .before .slice-known .given i)) (q .args .to .0) (q .args .on .0) (q .args .right .0) (q .pre .1) (q .pre .2) (q .pre .3) (c .before .before .before .place .result) (c .before .before .before .place .ensures .0) (q .args .depth .0) (c .before .number .result) _ (q .pre .4) (c .before .number .ensures) (c .with .ensures)
+    grants-allow (q .args .grants .now) (q .pre .0) (λ i h. omega (arith, c .before .before .before .before .slice-known .given i))
+    (q .args .to .0) (q .args .on .0) (q .args .right .0) (q .pre .1) (q .pre .2) (q .pre .3) (c .before .before .before .place .result)
+    (c .before .before .before .place .ensures .0) (q .args .depth .0) (c .before .number .result) _ (q .pre .4)
+    (c .before .number .ensures) (c .with .ensures)
 
 pub put-grant-spec : {M : Type 1} → statement M
 put-grant-spec =

@@ -1,3 +1,4 @@
+-- The item's bit in the live set and then an edit grant of depth 0 are the image that a creation leaves (`grants-create`).
 use borrow.Author.Needs.{needs}
 use Rattle.grants.proofs.Bytes.{grants-create}
 use Rattle.grants.proofs.put_item.Statement.{statement}
@@ -21,7 +22,9 @@ same-length c = search needs
 returns : tie.Need-returns
 returns c =
     let q = c .before .before .before .before .before .before .before .before .before .before .before in
-    grants-create (q .args .grants .now) _ _ (q .args .by .0) (q .args .on .0) _ _ (q .pre .0) (q .pre .2) (c .before .before .before .before .edit .ensures) (c .before .before .before .zero .ensures) (c .before .before .before .before .before .before .before .before .insert .ensures) (c .before .before .put-grant .ensures)
+    grants-create (q .args .grants .now) _ _ (q .args .by .0) (q .args .on .0) _ _ (q .pre .0) (q .pre .2)
+    (c .before .before .before .before .edit .ensures) (c .before .before .before .zero .ensures)
+    (c .before .before .before .before .before .before .before .before .insert .ensures) (c .before .before .put-grant .ensures)
 
 pub put-item-spec : {M : Type 1} → statement M
 put-item-spec =

@@ -1,3 +1,5 @@
+-- Where the key stands at the place, the number after it is the field's (`field-some`); where not, there is none (`field-none`). A key
+-- that stands there ends within the line, so the place after it does not overflow (`key-fits`).
 use borrow.Author.Needs.{needs}
 use native.Mathlib.Omega.{arith}
 use mathlib.Core.Path.{sym, _∙_}
@@ -10,18 +12,25 @@ starts-requires c κs = search needs
 
 add-read-number : tie.Need-add-read-number
 add-read-number c =
-    omega (arith, key-fits (c .before .before .before .before .args .key .now) (c .before .before .before .before .args .s .now) (c .before .before .before .before .args .at) (sym (c .before .starts .ensures) ∙ c .if1 .taken))
+    omega (
+      arith,
+      key-fits (c .before .before .before .before .args .key .now) (c .before .before .before .before .args .s .now)
+          (c .before .before .before .before .args .at) (sym (c .before .starts .ensures) ∙ c .if1 .taken),
+    )
 
 read-number-requires : tie.Need-read-number-requires
 read-number-requires c κs = search needs
 
 returns : tie.Need-returns
 returns c =
-    c .read-number .ensures ∙ field-some (c .before .before .before .before .before .args .key .now) (c .before .before .before .before .before .args .s .now) (c .before .before .before .before .before .args .at) (sym (c .before .before .starts .ensures) ∙ c .before .if1 .taken)
+    c .read-number .ensures ∙ field-some (c .before .before .before .before .before .args .key .now)
+    (c .before .before .before .before .before .args .s .now) (c .before .before .before .before .before .args .at)
+    (sym (c .before .before .starts .ensures) ∙ c .before .if1 .taken)
 
 returns-2 : tie.Need-returns-2
 returns-2 c =
-    field-none (c .before .before .before .before .args .key .now) (c .before .before .before .before .args .s .now) (c .before .before .before .before .args .at) (sym (c .before .starts .ensures) ∙ c .if1 .left)
+    field-none (c .before .before .before .before .args .key .now) (c .before .before .before .before .args .s .now)
+    (c .before .before .before .before .args .at) (sym (c .before .starts .ensures) ∙ c .if1 .left)
 
 pub field-spec : {M : Type 1} → statement M
 field-spec =

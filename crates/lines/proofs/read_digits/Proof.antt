@@ -1,3 +1,5 @@
+-- The digits from the start are those passed, of value v, and those of the rest: the loop ends where the rest has none (`digits-stop`,
+-- `digits-end`). No digit makes the value less, so one past 32 bits is bad whatever follows (`num-large`), and v never overflows.
 use borrow.Author.Needs.{needs}
 use native.Mathlib.Omega.{arith}
 use mathlib.Core.Path.{_≡_, refl, sym, _∙_}
@@ -11,13 +13,16 @@ use Rattle.lines.proofs.read_digits.Statement.{statement}
 use Rattle.lines.proofs.read_digits.Tie as tie
 
 abbrev Inv-loop : tie.InvT-loop
-Inv-loop s at v₀ i₀ v i = (at ≤ i) × (i ≤ length s) × (v ≤ 4294967295) × (valueOf (digits (drop at s)) ≡ valueFrom v (digits (drop i s))) × (at + length (digits (drop at s)) ≡ i + length (digits (drop i s)))
+Inv-loop s at v₀ i₀ v i =
+    (at ≤ i) × (i ≤ length s) × (v ≤ 4294967295) × (valueOf (digits (drop at s)) ≡ valueFrom v (digits (drop i s)))
+    × (at + length (digits (drop at s)) ≡ i + length (digits (drop i s)))
 
 abbrev μ-loop : tie.MeasureT-loop
 μ-loop s at v₀ i₀ v i = length s - i
 
 -- the byte read is a digit
-more : (c : tie.Else1 Inv-loop μ-loop) → digit (getD (c .before .before .before .before .before .before .args .s .now) (c .before .before .before .before .loop .i) 0) ≡ true
+more : (c : tie.Else1 Inv-loop μ-loop)
+    → digit (getD (c .before .before .before .before .before .before .args .s .now) (c .before .before .before .before .loop .i) 0) ≡ true
 more c = sym (c .before .is-digit .ensures) ∙ not-false _ (c .if1 .left)
 
 loop-holds : tie.Need-loop-holds Inv-loop μ-loop
@@ -34,7 +39,8 @@ finish-requires c κs =
     let a = c .before .before .before .before .before .before .args in
     let l = c .before .before .before .before .loop in
     let stop : digit (getD (a .s .now) (l .i) 0) ≡ false = sym (c .before .is-digit .ensures) ∙ not-true _ (c .if1 .taken) in
-    digits-start (a .s .now) (a .at) (l .i) (l .v) (l .inv .0) (l .inv .1) (l .inv .2) (l .inv .3) (l .inv .4) (digits-stop (a .s .now) (l .i) (omega arith) stop)
+    digits-start (a .s .now) (a .at) (l .i) (l .v) (l .inv .0) (l .inv .1) (l .inv .2) (l .inv .3) (l .inv .4)
+    (digits-stop (a .s .now) (l .i) (omega arith) stop)
 
 returns : tie.Need-returns Inv-loop μ-loop
 returns c = search needs
@@ -52,7 +58,9 @@ returns-2 : tie.Need-returns-2 Inv-loop μ-loop
 returns-2 c =
     let a = c .before .before .before .before .before .before .before .before .args in
     let l = c .before .before .before .before .before .before .loop in
-    num-large (a .s .now) (a .at) _ (digits (drop (l .i + 1) (a .s .now))) (l .inv .3 ∙ rw (digits-more (a .s .now) (l .i) (omega arith) (more (c .before .before)), c .before .digit-value .ensures .0) refl) (c .if2 .taken)
+    num-large (a .s .now) (a .at) _ (digits (drop (l .i + 1) (a .s .now)))
+    (l .inv .3 ∙ rw (digits-more (a .s .now) (l .i) (omega arith) (more (c .before .before)), c .before .digit-value .ensures .0) refl)
+    (c .if2 .taken)
 
 add-i : tie.Need-add-i Inv-loop μ-loop
 add-i c = search needs
@@ -71,7 +79,8 @@ finish-requires-2 : tie.Need-finish-requires-2 Inv-loop μ-loop
 finish-requires-2 c κs =
     let a = c .before .before .before .args in
     let l = c .before .loop in
-    digits-start (a .s .now) (a .at) (l .i) (l .v) (l .inv .0) (l .inv .1) (l .inv .2) (l .inv .3) (l .inv .4) (digits-end (a .s .now) (l .i) (omega arith))
+    digits-start (a .s .now) (a .at) (l .i) (l .v) (l .inv .0) (l .inv .1) (l .inv .2) (l .inv .3) (l .inv .4)
+    (digits-end (a .s .now) (l .i) (omega arith))
 
 returns-3 : tie.Need-returns-3 Inv-loop μ-loop
 returns-3 c = search needs

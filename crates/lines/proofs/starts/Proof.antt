@@ -1,3 +1,5 @@
+-- The word stands at its place exactly where what is left of it stands at i: the loop stops at the line's end (`starts-short`) or at
+-- another byte (`starts-other`), and passes an equal one (`starts-same`). Of an empty rest nothing is missing.
 use borrow.Author.Needs.{needs}
 use native.Mathlib.Omega.{arith}
 use mathlib.Core.Path.{_≡_, refl, sym, _∙_}

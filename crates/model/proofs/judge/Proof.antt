@@ -1,3 +1,5 @@
+-- Each `row` puts its number over the answer of the rows below, so the seven together have the number of the table; an answer is
+-- known by its number (`answer-is`).
 use borrow.Author.Needs.{needs}
 use mathlib.Core.Path.{_∙_}
 use Rattle.model.proofs.Answers.{answer-is}

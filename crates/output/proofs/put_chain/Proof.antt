@@ -1,3 +1,5 @@
+-- The depth with its key, the key of the persons, and the persons are written one after another (`wrote-field`, `wrote-then`). At most
+-- eight are written, and the buffer has no more (`take-min`); 17, 5 and 31 bytes are 53.
 use lib.ListN.{length-take, take}
 use lib.Seq.{length-take-le}
 use mir.Syntax.{w8}
@@ -34,10 +36,23 @@ array-share-prefix-via c = search needs
 slice-aggregate-put-persons : tie.Need-slice-aggregate-put-persons
 slice-aggregate-put-persons c =
     let g = c .before .before .before .before .before .before .before .before .before .before .before .before .before .before .good .1 .1 .1 .1 .0 in
-    sym (length-take-le (c .before .before .in-buffer .result) (c .before .before .before .before .before .before .before .before .before .before .before .before .before .before .args .t5) (omega (arith, good-length (eInt w8) 8 (c .before .before .before .before .before .before .before .before .before .before .before .before .before .before .args .t5) _ g)))
+    sym (length-take-le (c .before .before .in-buffer .result)
+    (c .before .before .before .before .before .before .before .before .before .before .before .before .before .before .args .t5)
+    (omega (
+      arith,
+      good-length (eInt w8) 8
+          (c .before .before .before .before .before .before .before .before .before .before .before .before .before .before .args .t5) _ g,
+    )))
 
 put-persons-requires : tie.Need-put-persons-requires
-put-persons-requires c κs = (omega arith, omega (arith, length-take (c .before .before .in-buffer .result) (c .before .before .before .before .before .before .before .before .before .before .before .before .before .before .args .t5)))
+put-persons-requires c κs = (
+  omega arith,
+  omega (
+    arith,
+    length-take (c .before .before .in-buffer .result)
+        (c .before .before .before .before .before .before .before .before .before .before .before .before .before .before .args .t5),
+  ),
+)
 
 same-length : tie.Need-same-length
 same-length c = search needs
@@ -47,8 +62,11 @@ unfolding tailText saidText
 returns c =
     let a = c .before .before .before .before .before .before .before .before .before .before .before .before .before .before .before .before .before .args in
     let g = c .before .before .before .before .before .before .before .before .before .before .before .before .before .before .before .before .before .good .1 .1 .1 .1 .0 in (
-      wrote-field (bytes " depth=") (shown (a .depth)) (c .before .before .before .before .before .before .before .before .before .before .before .before .before .put-field .ensures .0) (wrote-then (c .before .before .before .before .before .before .before .before .put-bytes .ensures)
-          (wrote-is (ap persons (ap (λ (n : ℕ). take n (a .t5)) (c .before .before .before .before .before .in-buffer .ensures .0) ∙ take-min (a .persons) 8 (a .t5) (good-length (eInt w8) 8 (a .t5) _ g))) (c .before .before .put-persons .ensures .0))),
+      wrote-field (bytes " depth=") (shown (a .depth))
+          (c .before .before .before .before .before .before .before .before .before .before .before .before .before .put-field .ensures .0)
+          (wrote-then (c .before .before .before .before .before .before .before .before .put-bytes .ensures)
+          (wrote-is (ap persons (ap (λ (n : ℕ). take n (a .t5)) (c .before .before .before .before .before .in-buffer .ensures .0)
+          ∙ take-min (a .persons) 8 (a .t5) (good-length (eInt w8) 8 (a .t5) _ g))) (c .before .before .put-persons .ensures .0))),
       omega arith,
     )
 

@@ -14,7 +14,11 @@ same-length : tie.Need-same-length
 same-length c = search needs
 
 returns : tie.Need-returns
-returns c = (wrote-then (c .before .before .before .before .before .before .put-bytes .ensures) (c .before .before .put-said .ensures .0), omega arith)
+returns c = (
+  wrote-then (c .before .before .before .before .before .before .put-bytes .ensures)
+      (c .before .before .put-said .ensures .0),
+  omega arith,
+)
 
 pub put-field-spec : {M : Type 1} → statement M
 put-field-spec = tie.close (tie.spec put-bytes-requires put-said-requires same-length returns)

@@ -1,3 +1,4 @@
+-- Without room nothing is written (`puts-none`); with room for 128 bytes the line is, and takes no more (`puts-wrote`).
 use borrow.Author.Tests.{not-true, not-false, leb-true}
 use Rattle.output.proofs.Written.{puts-none, puts-wrote}
 use borrow.Author.Needs.{needs}
@@ -20,7 +21,8 @@ same-length c = search needs
 returns-2 : tie.Need-returns-2
 returns-2 c =
     let w = c .before .before .write-line .ensures in
-    puts-wrote _ _ _ (sym (c .before .before .before .before .before .has-room .ensures) ∙ not-false _ (c .before .before .before .before .if1 .left)) (w .0) (w .1)
+    puts-wrote _ _ _ (sym (c .before .before .before .before .before .has-room .ensures)
+    ∙ not-false _ (c .before .before .before .before .if1 .left)) (w .0) (w .1)
 
 pub put-line-spec : {M : Type 1} → statement M
 put-line-spec =

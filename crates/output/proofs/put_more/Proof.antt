@@ -1,3 +1,5 @@
+-- After i turns the first i persons are written, a comma before each (`more-next`), in at most 4 bytes each; at the end that is all, and
+-- seven of them take at most 28.
 use lib.Seq.{take-all}
 use Rattle.output.proofs.Written.{wrote-then, wrote-none, wrote-is, more-next}
 use Rattle.output.specs.Output.{morePersons}
@@ -11,7 +13,8 @@ use Rattle.output.proofs.put_more.Statement.{statement}
 use Rattle.output.proofs.put_more.Tie as tie
 
 abbrev Inv-loop : tie.InvT-loop
-Inv-loop buf₀ at via p₀ i₀ buf p i = (i ≤ length via) × (length buf ≡ length buf₀) × Wrote buf₀ at (morePersons (take i via)) p buf × (p ≤ at + 4 * i)
+Inv-loop buf₀ at via p₀ i₀ buf p i =
+    (i ≤ length via) × (length buf ≡ length buf₀) × Wrote buf₀ at (morePersons (take i via)) p buf × (p ≤ at + 4 * i)
 
 abbrev μ-loop : tie.MeasureT-loop
 μ-loop buf₀ at via p₀ i₀ buf p i = length via - i

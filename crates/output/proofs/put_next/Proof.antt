@@ -17,7 +17,11 @@ same-length : tie.Need-same-length
 same-length c = search needs
 
 returns : tie.Need-returns
-returns c = (wrote-then (c .before .before .before .before .before .before .put-bytes .ensures) (c .before .before .put-person .ensures .0), omega arith)
+returns c = (
+  wrote-then (c .before .before .before .before .before .before .put-bytes .ensures)
+      (c .before .before .put-person .ensures .0),
+  omega arith,
+)
 
 pub put-next-spec : {M : Type 1} → statement M
 put-next-spec =

@@ -11,7 +11,8 @@ same-length : tie.Need-same-length
 same-length c = search needs
 
 returns : tie.Need-returns
-returns c = (c .before .before .put-number .ensures, omega (arith, shown-8 (c .before .before .before .before .before .args .person) (omega arith)))
+returns c =
+    (c .before .before .put-number .ensures, omega (arith, shown-8 (c .before .before .before .before .before .args .person) (omega arith)))
 
 pub put-person-spec : {M : Type 1} → statement M
 put-person-spec = tie.close (tie.spec put-number-requires same-length returns)

@@ -1,3 +1,4 @@
+-- No persons are no text (`persons-none`); of some, the first comes alone and the others with a comma before each (`persons-some`).
 use lib.ListN.{length-drop, length, drop}
 use lib.Seq.{take-all}
 use Rattle.output.specs.Output.{morePersons}
@@ -36,8 +37,15 @@ same-length c = search needs
 
 returns-2 : tie.Need-returns-2
 returns-2 c =
-    let a = c .before .before .before .before .before .before .before .before .before .before .before .before .before .args in
-    (wrote-is (sym (persons-some (a .via .now) (c .before .before .before .before .before .before .before .before .before .before .if1 .left))) (wrote-then (c .before .before .before .before .before .before .before .put-person .ensures .0) (wrote-is (ap morePersons (take-all (length (a .via .now) - 1) (drop 1 (a .via .now)) (omega (arith, length-drop 1 (a .via .now))))) (c .before .before .put-more .ensures .0))), omega arith)
+    let a = c .before .before .before .before .before .before .before .before .before .before .before .before .before .args in (
+      wrote-is (sym (persons-some (a .via .now)
+          (c .before .before .before .before .before .before .before .before .before .before .if1 .left)))
+          (wrote-then (c .before .before .before .before .before .before .before .put-person .ensures .0)
+          (wrote-is (ap morePersons (take-all (length (a .via .now) - 1) (drop 1 (a .via .now))
+          (omega (arith, length-drop 1 (a .via .now)))))
+          (c .before .before .put-more .ensures .0))),
+      omega arith,
+    )
 
 pub put-persons-spec : {M : Type 1} → statement M
 put-persons-spec =

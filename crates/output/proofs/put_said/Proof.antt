@@ -1,3 +1,4 @@
+-- In each arm the text written is that of the field, which the match has told; a number of 32 bits has at most 10 digits (`shown-32`).
 use Rattle.output.specs.Output.{saidText}
 use Rattle.lines.proofs.Decimal.{shown-32}
 use borrow.Author.Needs.{needs}
@@ -46,7 +47,12 @@ same-length c = search needs
 
 returns : tie.Need-returns
 unfolding saidText
-returns c = rw (c .before .before .before .before .before .said .given .1) (c .before .before .put-number .ensures, omega (arith, shown-32 (c .before .before .before .before .before .said .given .0 .0) (omega arith)))
+returns c =
+    rw (c .before .before .before .before .before .said .given .1) (
+      c .before .before .put-number .ensures,
+      omega
+          (arith, shown-32 (c .before .before .before .before .before .said .given .0 .0) (omega arith)),
+    )
 
 same-length-2 : tie.Need-same-length-2
 same-length-2 c = search needs

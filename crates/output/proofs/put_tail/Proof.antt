@@ -1,3 +1,4 @@
+-- In each arm the text written is that of the tail, which the match has told; of nothing no byte is written (`wrote-none`).
 use Rattle.output.specs.Output.{tailText}
 use Rattle.output.proofs.Written.{wrote-none}
 use borrow.Author.Needs.{needs}

@@ -1,3 +1,4 @@
+-- The three fields are written one after another (`wrote-units`); their keys and at most 10 bytes each are 48.
 use Rattle.output.proofs.Written.{wrote-units}
 use borrow.Author.Needs.{needs}
 use native.Mathlib.Omega.{arith}
@@ -27,8 +28,13 @@ same-length c = search needs
 
 returns : tie.Need-returns
 returns c =
-    let a = c .before .before .before .before .before .before .before .before .before .before .before .before .before .before .before .before .args in
-    (wrote-units (a .reply .list) (a .reply .row) (a .reply .chain) (c .before .before .before .before .before .before .before .before .before .before .before .before .put-field .ensures .0) (c .before .before .before .before .before .before .before .put-field2 .ensures .0) (c .before .before .put-field3 .ensures .0), omega arith)
+    let a = c .before .before .before .before .before .before .before .before .before .before .before .before .before .before .before .before .args in (
+      wrote-units (a .reply .list) (a .reply .row) (a .reply .chain)
+          (c .before .before .before .before .before .before .before .before .before .before .before .before .put-field .ensures .0)
+          (c .before .before .before .before .before .before .before .put-field2 .ensures .0)
+          (c .before .before .put-field3 .ensures .0),
+      omega arith,
+    )
 
 pub put-units-spec : {M : Type 1} → statement M
 put-units-spec =

@@ -1,3 +1,4 @@
+-- The key with the count, then byte 10, one after the other (`wrote-field`): at most 27 bytes.
 use Rattle.output.specs.Output.{lastOutput, newline}
 use Rattle.lines.specs.Bytes.{bytes}
 use Rattle.lines.specs.Show.{shown}
@@ -24,8 +25,12 @@ same-length c = search needs
 
 returns : tie.Need-returns
 unfolding lastOutput newline
-returns c =
-    (wrote-field (bytes "lines=") (shown (c .before .before .before .before .before .before .before .before .before .before .before .args .n)) (c .before .before .before .before .before .before .before .put-count .ensures .0) (c .before .before .put-bytes .ensures), omega arith)
+returns c = (
+  wrote-field (bytes "lines=") (shown
+      (c .before .before .before .before .before .before .before .before .before .before .before .args .n))
+      (c .before .before .before .before .before .before .before .put-count .ensures .0) (c .before .before .put-bytes .ensures),
+  omega arith,
+)
 
 pub write-last-spec : {M : Type 1} → statement M
 write-last-spec =

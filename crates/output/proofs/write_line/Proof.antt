@@ -1,3 +1,4 @@
+-- The count, the units' fields, the tail and byte 10 are written one after another (`wrote-line`): at most 127 bytes.
 use Rattle.output.proofs.Written.{wrote-line}
 use Rattle.output.specs.Output.{newline}
 use borrow.Author.Needs.{needs}
@@ -29,8 +30,11 @@ same-length c = search needs
 returns : tie.Need-returns
 unfolding newline
 returns c =
-    let a = c .before .before .before .before .before .before .before .before .before .before .before .before .before .before .before .before .before .before .before .args in
-    (wrote-line (a .n) (a .reply) (a .via) (c .before .before .before .before .before .before .before .before .before .before .before .before .before .before .before .put-count .ensures .0) (c .before .before .before .before .before .before .before .before .before .before .before .put-units .ensures .0) (c .before .before .before .before .before .before .before .put-tail .ensures .0) (c .before .before .put-bytes .ensures), omega arith)
+    let a = c .before .before .before .before .before .before .before .before .before .before .before .before .before .before .before .before .before .before .before .args in (
+      wrote-line (a .n) (a .reply) (a .via)
+          (c .before .before .before .before .before .before .before .before .before .before .before .before .before .before .before .put-count .ensures .0) (c .before .before .before .before .before .before .before .before .before .before .before .put-units .ensures .0) (c .before .before .before .before .before .before .before .put-tail .ensures .0) (c .before .before .put-bytes .ensures),
+      omega arith,
+    )
 
 pub write-line-spec : {M : Type 1} → statement M
 write-line-spec =

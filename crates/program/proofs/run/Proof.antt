@@ -20,7 +20,8 @@ returns c =
     let a = c .before .before .before .before .before .before .before .before .before .before .before .before .before .before .before .args in
     let begun = c .before .before .before .before .before .before .before .before .before .fresh in
     let units = unitsIn (a .list .now) (a .row .now) (a .grants .now) (a .loans .now) in
-    ran-fresh (started units _ _ (search needs, search needs, search needs, search needs) (begun .ensures)) (c .before .before .read-all .ensures)
+    ran-fresh (started units _ _ (search needs, search needs, search needs, search needs) (begun .ensures))
+    (c .before .before .read-all .ensures)
 
 pub run-spec : {M : Type 1} → statement M
 run-spec = tie.close (tie.spec fresh-requires read-all-requires same-length returns)

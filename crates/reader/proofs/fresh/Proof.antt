@@ -1,3 +1,5 @@
+-- A buffer of a wrong length is found before any is written, so a refusal leaves all four (`start-refused`); past the four tests each
+-- unit is made fresh, and none refuses (`start-done`).
 use Rattle.reader.proofs.Start.{start-refused, start-done}
 use borrow.Author.Needs.{needs}
 use Rattle.reader.proofs.fresh.Statement.{statement}
@@ -37,7 +39,8 @@ same-length-4 : tie.Need-same-length-4
 same-length-4 c = search needs
 
 returns-5 : tie.Need-returns-5
-returns-5 c = start-done _ (c .before .before .before .before .before .before .before .before .before .before .before .before .before .before .before .before .before .before .if1 .left, c .before .before .before .before .before .before .before .before .before .before .before .before .before .before .before .before .before .if2 .left, c .before .before .before .before .before .before .before .before .before .before .before .before .before .before .before .before .if3 .left, c .before .before .before .before .before .before .before .before .before .before .before .before .before .before .before .if4 .left) _ _ _ _ _ _ _ (c .before .before .before .before .before .before .before .before .before .before .before .before .before .fresh .ensures) (c .before .before .before .before .before .before .before .before .before .fresh2 .ensures) (c .before .before .before .before .fresh3 .ensures)
+returns-5 c =
+    start-done _ (c .before .before .before .before .before .before .before .before .before .before .before .before .before .before .before .before .before .before .if1 .left, c .before .before .before .before .before .before .before .before .before .before .before .before .before .before .before .before .before .if2 .left, c .before .before .before .before .before .before .before .before .before .before .before .before .before .before .before .before .if3 .left, c .before .before .before .before .before .before .before .before .before .before .before .before .before .before .before .if4 .left) _ _ _ _ _ _ _ (c .before .before .before .before .before .before .before .before .before .before .before .before .before .fresh .ensures) (c .before .before .before .before .before .before .before .before .before .fresh2 .ensures) (c .before .before .before .before .fresh3 .ensures)
 
 pub fresh-spec : {M : Type 1} → statement M
 fresh-spec =

@@ -1,3 +1,5 @@
+-- In each arm the units reply to what the line asks for, which the match has told (`as-asked`); a malformed line changes nothing
+-- (`malformed-replies`).
 use Rattle.reader.proofs.Replies.{as-asked, malformed-replies}
 use borrow.Author.Needs.{needs}
 use Rattle.reader.proofs.run.Statement.{statement}
@@ -34,7 +36,8 @@ same-length-4 : tie.Need-same-length-4
 same-length-4 c = search needs
 
 returns : tie.Need-returns
-returns c = as-asked (c .before .before .before .before .before .before .before .before .before .before .before .before .before .before .line .given .1) (c .before .before .before .before .before .before .before .before .run-command .ensures)
+returns c =
+    as-asked (c .before .before .before .before .before .before .before .before .before .before .before .before .before .before .line .given .1) (c .before .before .before .before .before .before .before .before .run-command .ensures)
 
 same-length-5 : tie.Need-same-length-5
 same-length-5 c = search needs

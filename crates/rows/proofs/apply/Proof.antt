@@ -1,3 +1,5 @@
+-- In each arm the image is as the edit, which the match has told, leaves it. A place in rows does not depend on the depth, so a grant
+-- put in without one is the grant allowed.
 use borrow.Author.Needs.{needs}
 use Rattle.layouts.specs.Layouts.{rows}
 use Rattle.rows.proofs.apply.Statement.{statement}

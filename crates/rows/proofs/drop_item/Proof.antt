@@ -1,3 +1,5 @@
+-- The places that name the item are those of its own row of 64 bytes, and its byte in each row: both set to 0, with its bit taken out
+-- of the live set, are the image without it (`rows-delete`).
 use native.Mathlib.Omega.{arith}
 use borrow.Author.Needs.{needs}
 use Rattle.rows.proofs.Bytes.{rows-delete}
@@ -34,7 +36,8 @@ same-length c = search needs
 returns : tie.Need-returns
 returns c =
     let start = c .before .before .before .before .before .before .before .before .before .before .before .before .before .before in
-    rows-delete (start .args .image .now) (start .pre .0) (λ i h. omega (arith, c .before .before .before .before .before .before .before .before .before .before .before .before .before .slice-known .given i)) (start .args .on .0) (c .before .before .before .before .before .before .before .before .number .result) _ _ _ (start .pre .1) (c .before .before .before .before .before .before .before .before .number .ensures) (c .before .before .before .before .before .before .before .before .before .before .before .remove .ensures) (c .before .before .before .before .before .before .clear-each .ensures) (c .before .before .clear-each2 .ensures)
+    rows-delete (start .args .image .now) (start .pre .0)
+    (λ i h. omega (arith, c .before .before .before .before .before .before .before .before .before .before .before .before .before .slice-known .given i)) (start .args .on .0) (c .before .before .before .before .before .before .before .before .number .result) _ _ _ (start .pre .1) (c .before .before .before .before .before .before .before .before .number .ensures) (c .before .before .before .before .before .before .before .before .before .before .before .remove .ensures) (c .before .before .before .before .before .before .clear-each .ensures) (c .before .before .clear-each2 .ensures)
 
 pub drop-item-spec : {M : Type 1} → statement M
 drop-item-spec =

@@ -1,3 +1,5 @@
+-- Three bits of the live set, and whether the one who commands has the edit right, right 0, on the item: field by field what the table
+-- asks (`facts-are`).
 use borrow.Author.Needs.{needs}
 use Rattle.layouts.specs.Layouts.{rows}
 use Rattle.model.specs.Commands.{rawOf}
@@ -24,7 +26,8 @@ returns : tie.Need-returns
 unfolding rows
 returns c =
     let start = c .before .before .before .before .before .before .before .before .before in
-    facts-are rows (start .args .image .now) (rawOf (start .args .t)) _ _ _ _ _ (c .before .before .before .before .edit .ensures) (c .before .before .before .is-live .ensures) (c .before .before .is-live2 .ensures) (c .before .is-live3 .ensures) (c .holds .ensures)
+    facts-are rows (start .args .image .now) (rawOf (start .args .t)) _ _ _ _ _ (c .before .before .before .before .edit .ensures)
+    (c .before .before .before .is-live .ensures) (c .before .before .is-live2 .ensures) (c .before .is-live3 .ensures) (c .holds .ensures)
 
 pub facts-spec : {M : Type 1} → statement M
 facts-spec =

@@ -1,3 +1,5 @@
+-- Refused by its length, the buffer stays (`fresh-length`); otherwise its two bytes are written over bytes that are all 0, which makes
+-- the fresh image (`zeroed-all`, `fresh-written`).
 use mathlib.Core.Path.{refl, _∙_, _≡_, ap}
 use native.Mathlib.Omega.{arith}
 use borrow.Author.Needs.{needs}
@@ -37,7 +39,8 @@ returns-2 c =
     let l : length (z .last .0) ≡ 4104 = z .kept .0 ∙ c .before .before .before .before .before .if1 .left in
     fresh-done rows (start .args .image .now) _ (c .before .before .before .before .before .if1 .left)
     (fresh-written rows rows-laws 8 (λ z. omega arith) refl (z .last .0) _ _ l
-    (λ i. ap (λ s. getD s i 0) (z .ensures) ∙ zeroed-all (start .args .image .now) 4104 (c .before .before .before .before .before .if1 .left) i)
+    (λ i. ap (λ s. getD s i 0) (z .ensures)
+    ∙ zeroed-all (start .args .image .now) 4104 (c .before .before .before .before .before .if1 .left) i)
     (c .before .before .before .before .fresh .ensures .0) (c .before .before .before .before .fresh .ensures .1))
 
 pub fresh-spec : {M : Type 1} → statement M

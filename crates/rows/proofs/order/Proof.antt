@@ -1,3 +1,4 @@
+-- The two tests in the order of their numbers: length (`order-length`), then order (`order-broken`), else 0 (`order-done`).
 use mathlib.Core.Path.{sym, _∙_}
 use borrow.Author.Tests.{not-true, not-false}
 use borrow.Author.Needs.{needs}

@@ -1,3 +1,4 @@
+-- The item's bit in the live set, and then an edit grant to its maker, are the image that a creation leaves (`rows-create`).
 use borrow.Author.Needs.{needs}
 use Rattle.rows.proofs.Bytes.{rows-create}
 use Rattle.rows.proofs.put_item.Statement.{statement}
@@ -18,7 +19,9 @@ same-length c = search needs
 returns : tie.Need-returns
 returns c =
     let start = c .before .before .before .before .before .before .before .before .before .before in
-    rows-create (start .args .image .now) _ _ (start .args .by .0) (start .args .on .0) _ (start .pre .0) (start .pre .2) (c .before .before .before .edit .ensures) (c .before .before .before .before .before .before .before .insert .ensures) (c .before .before .put-grant .ensures)
+    rows-create (start .args .image .now) _ _ (start .args .by .0) (start .args .on .0) _ (start .pre .0) (start .pre .2)
+    (c .before .before .before .edit .ensures) (c .before .before .before .before .before .before .before .insert .ensures)
+    (c .before .before .put-grant .ensures)
 
 pub put-item-spec : {M : Type 1} → statement M
 put-item-spec =

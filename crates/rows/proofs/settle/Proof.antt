@@ -1,3 +1,5 @@
+-- The table is asked about the facts of the image: another number than 0 leaves the image (`judged-stops`), and 0 applies the command
+-- (`judged-goes`).
 use borrow.Author.Needs.{needs}
 use Rattle.layouts.specs.Layouts.{rows, flatUnit}
 use Rattle.model.specs.Commands.{rawOf}
@@ -20,7 +22,8 @@ same-length c = search needs
 returns : tie.Need-returns
 returns c =
     let start = c .before .before .before .before .before .before in
-    judged-stops (flatUnit rows) (start .args .image .now) (rawOf (start .args .t)) _ _ _ (c .before .before .before .facts .ensures) (c .before .before .judge .ensures) (c .before .number .ensures) (c .if1 .taken)
+    judged-stops (flatUnit rows) (start .args .image .now) (rawOf (start .args .t)) _ _ _ (c .before .before .before .facts .ensures)
+    (c .before .before .judge .ensures) (c .before .number .ensures) (c .if1 .taken)
 
 apply-requires : tie.Need-apply-requires
 apply-requires c κs = search needs
@@ -31,8 +34,11 @@ same-length-2 c = search needs
 returns-2 : tie.Need-returns-2
 returns-2 c =
     let start = c .before .before .before .before .before .before .before .before .before .before in
-    judged-goes (flatUnit rows) (start .args .image .now) (rawOf (start .args .t)) _ _ _ _ (c .before .before .before .before .before .before .before .facts .ensures) (c .before .before .before .before .before .before .judge .ensures)
-    (c .before .before .before .before .before .number .ensures) (c .before .before .before .before .if1 .left) (c .before .before .apply .ensures)
+    judged-goes (flatUnit rows) (start .args .image .now) (rawOf (start .args .t)) _ _ _ _
+    (c .before .before .before .before .before .before .before .facts .ensures)
+    (c .before .before .before .before .before .before .judge .ensures)
+    (c .before .before .before .before .before .number .ensures) (c .before .before .before .before .if1 .left)
+    (c .before .before .apply .ensures)
 
 pub settle-spec : {M : Type 1} → statement M
 settle-spec =

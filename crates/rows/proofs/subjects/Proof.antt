@@ -1,3 +1,5 @@
+-- An image of a wrong length or not in order is refused (`subjects-stop`). Any other has the right length (`readable`), so the scan says
+-- who the subjects are (`subjects-are`).
 use mathlib.Core.Path.{sym, _∙_}
 use borrow.Author.Needs.{needs}
 use Rattle.layouts.specs.Layouts.{rows}
@@ -12,14 +14,20 @@ number-requires : tie.Need-number-requires
 number-requires c κs = search needs
 
 returns : tie.Need-returns
-returns c = subjects-stop rows (c .before .before .before .before .args .image .now) _ (c .before .before .order .ensures) (λ z. c .if1 .taken (c .before .number .ensures ∙ z))
+returns c =
+    subjects-stop rows (c .before .before .before .before .args .image .now) _ (c .before .before .order .ensures)
+    (λ z. c .if1 .taken (c .before .number .ensures ∙ z))
 
 subjects-requires : tie.Need-subjects-requires
 unfolding rows
-subjects-requires c κs = readable rows (c .before .before .before .before .args .image .now) (sym (c .before .before .order .ensures) ∙ sym (c .before .number .ensures) ∙ c .if1 .left)
+subjects-requires c κs =
+    readable rows (c .before .before .before .before .args .image .now)
+    (sym (c .before .before .order .ensures) ∙ sym (c .before .number .ensures) ∙ c .if1 .left)
 
 returns-2 : tie.Need-returns-2
-returns-2 c = subjects-are rows (c .before .before .before .before .before .args .image .now) _ _ (c .before .before .before .order .ensures) (sym (c .before .before .number .ensures) ∙ c .before .if1 .left) (c .subjects .ensures)
+returns-2 c =
+    subjects-are rows (c .before .before .before .before .before .args .image .now) _ _ (c .before .before .before .order .ensures)
+    (sym (c .before .before .number .ensures) ∙ c .before .if1 .left) (c .subjects .ensures)
 
 pub subjects-spec : {M : Type 1} → statement M
 subjects-spec =

@@ -1,3 +1,5 @@
+-- By the test of the borrower: a loan to `q` passes on what it gains from its lender's entry (`arrive-here`), another nothing
+-- (`arrive-else`).
 use borrow.Author.Needs.{needs}
 use Rattle.delegation.specs.Search.{gain}
 use Rattle.delegation.proofs.Search.{arrive-here, arrive-else}
@@ -34,11 +36,15 @@ returns : tie.Need-returns
 returns c =
     let a = c .before .before .before .before .before .before .before .before .args in
     let p = c .before .before .number3 .ensures ∙ c .before .before .before .lender .ensures in
-    let q = sym (c .before .before .before .before .before .before .number .ensures ∙ c .before .before .before .before .before .before .before .borrower .ensures) ∙ c .before .before .before .before .if1 .taken ∙ c .before .before .before .before .before .number2 .ensures in
+    let q = sym (c .before .before .before .before .before .before .number .ensures
+    ∙ c .before .before .before .before .before .before .before .borrower .ensures) ∙ c .before .before .before .before .if1 .taken
+    ∙ c .before .before .before .before .before .number2 .ensures in
     c .gain-of .ensures ∙ (λ j. gain (getD (a .round .now) (p j) 0) (a .w)) ∙ sym (arrive-here _ _ _ q)
 
 returns-2 : tie.Need-returns-2
-returns-2 c = sym (arrive-else _ _ _ (λ e. c .if1 .left (c .before .before .number .ensures ∙ c .before .before .before .borrower .ensures ∙ e ∙ sym (c .before .number2 .ensures))))
+returns-2 c =
+    sym (arrive-else _ _ _ (λ e. c .if1 .left
+    (c .before .before .number .ensures ∙ c .before .before .before .borrower .ensures ∙ e ∙ sym (c .before .number2 .ensures))))
 
 pub arrive-of-spec : {M : Type 1} → statement M
 arrive-of-spec =

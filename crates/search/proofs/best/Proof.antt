@@ -1,3 +1,5 @@
+-- The buffer has room for the loans in use, which are at most 64 in the one case and at most 1,024 in the other. Item and right are
+-- within their limits, so a key that cuts each to its width is theirs.
 use borrow.Author.Needs.{needs}
 use native.Mathlib.Omega.{arith}
 use mathlib.Core.Path.{_≡_, _∙_}
@@ -26,7 +28,8 @@ returns : tie.Need-returns
 returns c =
     let a = c .before .before .before .before .before .before .before .before .before .before .before .before .args in
     let p = c .before .before .before .before .before .before .before .before .before .before .before .before .pre in
-    let k : c .before .before .before .before .before .before .before .before .key .result ≡ 8 * a .on .0 + a .right .0 = omega (arith, c .before .before .before .before .before .before .before .before .key .ensures, p .item, p .rights) in
+    let k : c .before .before .before .before .before .before .before .before .key .result ≡ 8 * a .on .0 + a .right .0 = omega
+    (arith, c .before .before .before .before .before .before .before .before .key .ensures, p .item, p .rights) in
     let e = c .before .before .before .best-in .ensures in (
       e .0 ∙ (λ j. foundSaid (foundOf (a .grants .now) (a .loans .now) (k j) (a .who .0))),
       e .1 ∙ (λ j. chainOf (a .grants .now) (a .loans .now) (k j) (a .who .0)),
@@ -45,7 +48,8 @@ returns-2 : tie.Need-returns-2
 returns-2 c =
     let a = c .before .before .before .before .before .before .before .before .before .before .before .before .args in
     let p = c .before .before .before .before .before .before .before .before .before .before .before .before .pre in
-    let k : c .before .before .before .before .before .before .before .before .key .result ≡ 8 * a .on .0 + a .right .0 = omega (arith, c .before .before .before .before .before .before .before .before .key .ensures, p .item, p .rights) in
+    let k : c .before .before .before .before .before .before .before .before .key .result ≡ 8 * a .on .0 + a .right .0 = omega
+    (arith, c .before .before .before .before .before .before .before .before .key .ensures, p .item, p .rights) in
     let e = c .before .before .before .best-in2 .ensures in (
       e .0 ∙ (λ j. foundSaid (foundOf (a .grants .now) (a .loans .now) (k j) (a .who .0))),
       e .1 ∙ (λ j. chainOf (a .grants .now) (a .loans .now) (k j) (a .who .0)),

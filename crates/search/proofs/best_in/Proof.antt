@@ -1,3 +1,5 @@
+-- Before the answer the loans are those picked, and the rounds serve for this person as all eight do (`Searched`). The greatest entry
+-- then says what was found (`found-is`), and the chain is empty where it is 0 (`chain-no`), else the one traced (`chain-yes`).
 use borrow.Author.Needs.{needs}
 use native.Mathlib.Omega.{arith}
 use mathlib.Core.Path.{sym, ap, _∙_}
@@ -88,7 +90,8 @@ returns : tie.Need-returns
 returns c =
     let s = known (c .before .before .before) in (
       c .said .ensures ∙ ap foundSaid (found-is s),
-      ⊎-elim (λ w. w .5 ∙ w .2 .ensures ∙ chain-no s (w .0 .taken)) (λ w. w .6 ∙ w .3 .ensures ∙ chain-yes s (w .0 .left)) (c .before .if1 .came),
+      ⊎-elim (λ w. w .5 ∙ w .2 .ensures ∙ chain-no s (w .0 .taken)) (λ w. w .6 ∙ w .3 .ensures ∙ chain-yes s (w .0 .left))
+          (c .before .if1 .came),
     )
 
 pub best-in-spec : {M : Type 1} → statement M

@@ -1,3 +1,5 @@
+-- After k turns it is the person's greatest entry of the first k rounds, and the first round that has it (`best-more`); at the end k is
+-- 8. The first such round of eight is below 8 (`first-le`).
 use borrow.Author.Needs.{needs}
 use native.Mathlib.Omega.{arith}
 use mathlib.Core.Path.{_≡_, refl, _∙_}
@@ -48,7 +50,9 @@ loop-again : tie.Need-loop-again Inv-loop μ-loop
 loop-again c =
     let l = c .before .before .before .loop in
     let b = c .better in
-    let m = best-more (column (c .before .before .before .before .before .args .rounds .now) (c .before .before .before .before .number .result)) (l .k) (l .e .value) (l .e .at) (b .result .value) (b .result .at) (l .inv .1) (l .inv .2) (b .ensures .0) (b .ensures .1) in
+    let m = best-more (column (c .before .before .before .before .before .args .rounds .now)
+    (c .before .before .before .before .number .result)) (l .k) (l .e .value) (l .e .at) (b .result .value) (b .result .at) (l .inv .1)
+    (l .inv .2) (b .ensures .0) (b .ensures .1) in
     (search needs, m .0, m .1)
 
 returns : tie.Need-returns Inv-loop μ-loop

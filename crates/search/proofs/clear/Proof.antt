@@ -1,3 +1,4 @@
+-- After i turns the first i bytes are 255; after 8, all of them.
 use lib.Seq.{ext-getD}
 use lib.ListN.{getD-replicate, length, getD, replicate, length-set}
 use borrow.Author.Needs.{needs}

@@ -1,3 +1,5 @@
+-- After p turns the first p entries are the heights of their grant bytes (`fill-more`); a byte has at most 8 leading zeros, so no
+-- subtraction goes below 0 (`leading-le`). After 64 turns that is the round.
 use lib.Count.{leading-le}
 use borrow.Author.Needs.{needs}
 use native.Mathlib.Omega.{arith}
@@ -45,8 +47,12 @@ loop-less c = search needs
 loop-again : tie.Need-loop-again Inv-loop μ-loop
 loop-again c =
     let a = c .before .before .before .args in
-    let l = c .before .before .loop in
-    (search needs, simp length-set (l .inv .1), fill-more (λ (q : ℕ). height (getD (a .grants .now) (a .base + q) 0)) 0 (l .round) (l .p) _ (omega arith) refl (l .inv .2))
+    let l = c .before .before .loop in (
+      search needs,
+      simp length-set (l .inv .1),
+      fill-more (λ (q : ℕ). height (getD (a .grants .now) (a .base + q) 0)) 0 (l .round)
+          (l .p) _ (omega arith) refl (l .inv .2),
+    )
 
 returns : tie.Need-returns Inv-loop μ-loop
 unfolding grantRound

@@ -1,3 +1,4 @@
+-- After p turns m is the greatest of the first p entries (`most-more`); at the end p is 64.
 use Rattle.bits.specs.Sets.{most}
 use Rattle.search.proofs.Rounds.{most-more}
 use borrow.Author.Needs.{needs}

@@ -15,7 +15,8 @@ cast-result : tie.Need-cast-result
 cast-result c = search needs
 
 returns : tie.Need-returns
-returns c = ap (λ (h : Header). h .count) (c .before .read .ensures ∙ sym (header-read (c .before .before .before .before .args .loans .now)))
+returns c =
+    ap (λ (h : Header). h .count) (c .before .read .ensures ∙ sym (header-read (c .before .before .before .before .args .loans .now)))
 
 pub in-use-spec : {M : Type 1} → statement M
 in-use-spec = tie.close (tie.spec shared-slice-read-read read-requires cast-result returns)

@@ -1,3 +1,5 @@
+-- From the last loan back: the lender looked for is that among the first i loans. A loan that passes v on ends it (`lender-here`),
+-- another is left out (`lender-else`); of no loans it is item 0.
 use borrow.Author.Needs.{needs}
 use Rattle.delegation.specs.Search.{lenderTo}
 use Rattle.search.proofs.Trace.{lender-here, lender-else}
@@ -38,7 +40,8 @@ returns c =
     let a = c .before .before .before .before .before .before .before .args in
     let l = c .before .before .before .before .before .loop in
     let f = c .before .before .arrive-of in
-    c .lender .ensures ∙ sym (l .inv .1 ∙ lender-here (a .ls .now) (a .round .now) (a .q .0) (a .v) (l .i) (f .result) (omega arith) (f .ensures) (omega arith))
+    c .lender .ensures ∙ sym (l .inv .1
+    ∙ lender-here (a .ls .now) (a .round .now) (a .q .0) (a .v) (l .i) (f .result) (omega arith) (f .ensures) (omega arith))
 
 loop-less : tie.Need-loop-less Inv-loop μ-loop
 loop-less c = search needs
@@ -47,8 +50,11 @@ loop-again : tie.Need-loop-again Inv-loop μ-loop
 loop-again c =
     let a = c .before .before .before .before .before .before .args in
     let l = c .before .before .before .before .loop in
-    let f = c .before .arrive-of in
-    (search needs, l .inv .1 ∙ lender-else (a .ls .now) (a .round .now) (a .q .0) (a .v) (l .i) (f .result) (omega arith) (f .ensures) (λ e. omega arith))
+    let f = c .before .arrive-of in (
+      search needs,
+      l .inv .1 ∙ lender-else (a .ls .now) (a .round .now) (a .q .0) (a .v) (l .i) (f .result) (omega arith) (f .ensures)
+          (λ e. omega arith),
+    )
 
 root-requires : tie.Need-root-requires Inv-loop μ-loop
 root-requires c κs = search needs

@@ -1,3 +1,5 @@
+-- After i turns each person's entry is the greatest that the first i loans pass on, since a turn raises its borrower's entry and no
+-- other (`raise-more`); at the end that is all loans.
 use borrow.Author.Needs.{needs}
 use lib.ListN.{getD-replicate, length, getD, length-set}
 use Rattle.bits.specs.Sets.{most}

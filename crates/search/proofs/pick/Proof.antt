@@ -1,3 +1,5 @@
+-- What is picked of the first i loans stands at the front (`Picked`), at first nothing; whole blocks are picked until fewer than 16
+-- loans are left, and the part after them makes it all.
 use lib.Dec.{eqb}
 use lib.Seq.{take-all}
 use Rattle.bits.specs.Sets.{keep}

@@ -1,3 +1,4 @@
+-- Where no loan of the block is seen, the loans picked up to its end are those picked before it; otherwise they are picked one by one.
 use borrow.Author.Needs.{needs}
 use native.Mathlib.Omega.{arith}
 use mathlib.Core.Path.{sym, _∙_}

@@ -1,3 +1,5 @@
+-- What is picked of the first i loans stands at the front (`Picked`): each loan is written there, and the place moves on where it
+-- counts (`pick-more`). The loop ends with i at `to`.
 use lib.Dec.{eqb}
 use mathlib.Core.Path.{subst, _≡_, refl}
 use Rattle.delegation.specs.Loans.{keyOf}
@@ -57,7 +59,9 @@ loop-again c =
       record {
         within = search needs;
         count = search needs;
-        are = pick-more (λ w. eqb (keyOf w) (a .key)) (a .loans .now) (l .i) (omega arith) (l .out) (l .m) (omega arith) (p .are) (c .counted .result) (c .counted .ensures .1);
+        are =
+            pick-more (λ w. eqb (keyOf w) (a .key)) (a .loans .now) (l .i) (omega arith) (l .out) (l .m) (omega arith) (p .are)
+            (c .counted .result) (c .counted .ensures .1);
       },
     )
 

@@ -1,3 +1,5 @@
+-- An entry of at most 1 passes nothing on, so the greater of both is the old entry and setting it changes nothing; otherwise the
+-- greater one is set at the borrower's place.
 use borrow.Author.Needs.{needs}
 use Prim.Native.Nat.{max}
 use lib.Seq.{set-getD}
@@ -41,7 +43,8 @@ returns-2 c =
     let a = c .before .before .before .before .before .before .args in
     let q = c .before .before .before .number .ensures ∙ c .before .before .before .before .borrower .ensures in
     let g = c .before .before .gain-of .ensures in
-    ap (set (a .next .now) (c .before .before .before .number .result)) (c .larger .ensures) ∙ (λ j. set (a .next .now) (q j) (max (getD (a .next .now) (q j) 0) (g j)))
+    ap (set (a .next .now) (c .before .before .before .number .result)) (c .larger .ensures)
+    ∙ (λ j. set (a .next .now) (q j) (max (getD (a .next .now) (q j) 0) (g j)))
 
 pub raise-spec : {M : Type 1} → statement M
 raise-spec =

@@ -1,3 +1,5 @@
+-- Rounds 0 to k are made and `top` is the person's greatest entry in them. A loan costs one, so once the greatest entry of round k
+-- less one is not above `top`, no later round matters (`settled-early`); after round 7 there is none (`settled-last`).
 use borrow.Author.Needs.{needs}
 use mathlib.Core.List.{List, []}
 use Prim.Native.Nat.{max, ℕ, _+_, _-_, _≤_, _<_}
@@ -17,7 +19,8 @@ use Rattle.search.proofs.rounds_of.Tie as tie
 abbrev Inv-loop : tie.InvT-loop
 Inv-loop ls place rounds₀ top₀ k₀ rounds top k =
     (k ≤ 7) × (length rounds ≡ 8) × ((j : ℕ) → j < k + 1 → getD rounds j [] ≡ roundAt (getD rounds₀ 0 []) ls j)
-    × ((j : ℕ) → k < j → j < 8 → getD rounds j [] ≡ getD rounds₀ 0 []) × (top ≡ most (λ (j : ℕ). getD (roundAt (getD rounds₀ 0 []) ls j) place 0) (k + 1))
+    × ((j : ℕ) → k < j → j < 8 → getD rounds j [] ≡ getD rounds₀ 0 [])
+    × (top ≡ most (λ (j : ℕ). getD (roundAt (getD rounds₀ 0 []) ls j) place 0) (k + 1))
 
 abbrev μ-loop : tie.MeasureT-loop
 μ-loop ls place rounds₀ top₀ k₀ rounds top k = 7 - k
@@ -59,8 +62,10 @@ returns c =
     let a = c .before .before .before .before .before .before .before .before .before .args in
     let l = c .before .before .before .before .before .before .loop in
     let g = c .before .before .greatest .ensures ∙ (λ j. most (λ (p : ℕ). getD (l .inv .2 (l .k) (omega arith) j) p 0) 64) in
-    subst (λ (p : ℕ). Settled (tabulate 8 (roundAt (a .t2) (a .ls .now))) (l .rounds) p) (c .before .before .before .before .before .before .before .number .ensures)
-    (settled-early (a .t2) (a .ls .now) (l .k) (l .rounds) (c .before .before .before .before .before .before .before .number .result) (l .top) (omega arith) (omega arith) (l .inv .2) (l .inv .3) (l .inv .4)
+    subst (λ (p : ℕ). Settled (tabulate 8 (roundAt (a .t2) (a .ls .now))) (l .rounds) p)
+    (c .before .before .before .before .before .before .before .number .ensures)
+    (settled-early (a .t2) (a .ls .now) (l .k) (l .rounds) (c .before .before .before .before .before .before .before .number .result)
+    (l .top) (omega arith) (omega arith) (l .inv .2) (l .inv .3) (l .inv .4)
     (omega (arith, g, c .before .left-of .ensures, c .if1 .taken)))
 
 next-round-requires : tie.Need-next-round-requires Inv-loop μ-loop
@@ -95,7 +100,9 @@ loop-again c =
       simp length-set (l .inv .1),
       fill-more (roundAt (a .t2) (a .ls .now)) [] (l .rounds) (l .k + 1) (n .result) (omega arith) e (l .inv .2),
       λ j h d. getD-set-other (l .rounds) (l .k + 1) j (n .result) [] (omega arith) ∙ l .inv .3 j (omega arith) d,
-      c .larger .ensures ∙ (λ j. max (l .inv .4 j) (getD (e j) (c .before .before .before .before .before .before .before .before .before .before .number .result) 0)) ∙ sym (most-more _ (l .k + 1)),
+      c .larger .ensures ∙ (λ j. max (l .inv .4 j)
+          (getD (e j) (c .before .before .before .before .before .before .before .before .before .before .number .result) 0))
+          ∙ sym (most-more _ (l .k + 1)),
     )
 
 returns-2 : tie.Need-returns-2 Inv-loop μ-loop
@@ -103,7 +110,8 @@ returns-2 c =
     let a = c .before .before .before .before .args in
     let l = c .before .loop in
     subst (λ (p : ℕ). Settled (tabulate 8 (roundAt (a .t2) (a .ls .now))) (l .rounds) p) (c .before .before .number .ensures)
-    (settled-last (a .t2) (a .ls .now) (l .k) (l .rounds) (c .before .before .number .result) (l .top) (omega arith) (omega arith) (l .inv .2) (l .inv .3) (l .inv .4) (omega arith))
+    (settled-last (a .t2) (a .ls .now) (l .k) (l .rounds) (c .before .before .number .result) (l .top) (omega arith) (omega arith)
+    (l .inv .2) (l .inv .3) (l .inv .4) (omega arith))
 
 pub rounds-of-spec : {M : Type 1} → statement M
 rounds-of-spec =

@@ -1,3 +1,5 @@
+-- An entry of 0 says no. Another is at most 8, so the depth one below it is within its limit (`said-within`), and the arm of a depth
+-- beyond it is never taken (`said-beyond`).
 use borrow.Author.Needs.{needs}
 use mathlib.Core.Path.{sym, _∙_}
 use borrow.Author.Tests.{eq-eqb}
@@ -34,12 +36,14 @@ enum-told c = search needs
 returns-2 : tie.Need-returns-2
 returns-2 c =
     let s = c .before .before .before .before .before .before .before in
-    said-within (s .args .e .value) (s .args .e .at) (s .pre .0) (c .before .before .before .before .before .if1 .left) _ (sym (c .before .before .before .read .ensures) ∙ c .before .depth .given .1)
+    said-within (s .args .e .value) (s .args .e .at) (s .pre .0) (c .before .before .before .before .before .if1 .left) _
+    (sym (c .before .before .before .read .ensures) ∙ c .before .depth .given .1)
 
 returns-3 : tie.Need-returns-3
 returns-3 c =
     let s = c .before .before .before .before .before .before in
-    absurd (said-beyond (s .args .e .value) (s .args .e .at) (s .pre .0) (c .before .before .before .before .if1 .left) (sym (c .before .before .read .ensures) ∙ c .enum-told .given .1))
+    absurd (said-beyond (s .args .e .value) (s .args .e .at) (s .pre .0) (c .before .before .before .before .if1 .left)
+    (sym (c .before .before .read .ensures) ∙ c .enum-told .given .1))
 
 pub said-spec : {M : Type 1} → statement M
 said-spec =

@@ -1,3 +1,5 @@
+-- Where the hits of the first j loans are 0, none of them is of the key (`pass-more`), since numbers ORed are 0 only where each is
+-- (`or-none`); so the loans picked up to there are those picked before. At the end j is 16.
 use lib.Dec.{eqb}
 use Rattle.bits.specs.Sets.{keep}
 use Rattle.delegation.specs.Loans.{keyOf}
@@ -12,7 +14,8 @@ use Rattle.search.proofs.seen.Tie as tie
 
 -- none of the first j loans from `at` on is of the key where hits is 0
 abbrev Inv-loop : tie.InvT-loop
-Inv-loop loans at key hits₀ j₀ hits j = (j ≤ 16) × (hits ≡ 0 → keep (λ w. eqb (keyOf w) key) (take (at + j) loans) ≡ keep (λ w. eqb (keyOf w) key) (take at loans))
+Inv-loop loans at key hits₀ j₀ hits j =
+    (j ≤ 16) × (hits ≡ 0 → keep (λ w. eqb (keyOf w) key) (take (at + j) loans) ≡ keep (λ w. eqb (keyOf w) key) (take at loans))
 
 abbrev μ-loop : tie.MeasureT-loop
 μ-loop loans at key hits₀ j₀ hits j = 16 - j
@@ -50,7 +53,8 @@ loop-again c =
       search needs,
       λ z. let o = or-none (l .hits) (n .result) z in
           ap (λ (n : ℕ). keep (λ w. eqb (keyOf w) (a .key)) (take n (a .loans .now))) e
-          ∙ pass-more (λ w. eqb (keyOf w) (a .key)) (a .loans .now) (a .at + l .j) (omega arith) (n .result) (n .ensures .1) (o .1) ∙ l .inv .1 (o .0),
+          ∙ pass-more (λ w. eqb (keyOf w) (a .key)) (a .loans .now) (a .at + l .j) (omega arith) (n .result) (n .ensures .1) (o .1)
+          ∙ l .inv .1 (o .0),
     )
 
 returns : tie.Need-returns Inv-loop μ-loop

@@ -1,3 +1,5 @@
+-- The chain wanted is the one to q with k loans, and then the bytes written after place k: a turn writes q at place k and goes on with
+-- its lender (`traced-step`). With no loan left q is the first person (`traced-end`); 255 stands after the last (`padding`).
 use borrow.Author.Needs.{needs}
 use mathlib.Core.List.{[], _++_}
 use native.Mathlib.Omega.{arith}
@@ -28,7 +30,8 @@ loop-holds c =
       search needs,
       search needs,
       ap length e,
-      ap (_++_ (traced (a .rounds .now) (a .ls .now) (a .at) (a .who .0))) (sym (ap (drop (suc (a .at))) e ∙ padding (a .at) (omega arith))),
+      ap (_++_ (traced (a .rounds .now) (a .ls .now) (a .at) (a .who .0)))
+          (sym (ap (drop (suc (a .at))) e ∙ padding (a .at) (omega arith))),
     )
 
 number-requires : tie.Need-number-requires Inv-loop μ-loop
@@ -73,7 +76,8 @@ loop-again c =
     let l = c .before .before .before .before .before .before .loop in
     let e = c .lender-to .ensures in
     let p = sym (c .before .before .before .before .number .ensures) in
-    let f = (λ j. lenderTo (a .ls .now) (getD (a .rounds .now) (l .k - 1) []) (l .q .0) (getD (getD (a .rounds .now) (l .k) []) (p j) 0) (length (a .ls .now))) ∙ sym e in (
+    let f = (λ j. lenderTo (a .ls .now) (getD (a .rounds .now) (l .k - 1) []) (l .q .0) (getD (getD (a .rounds .now) (l .k) []) (p j) 0)
+    (length (a .ls .now))) ∙ sym e in (
       search needs,
       rw e (lender-lt _ _ _ _ _),
       simp length-set (l .inv .2),
@@ -98,7 +102,8 @@ returns c =
     let a = c .before .before .before .before .before .before .before .before .before .args in
     let l = c .before .before .loop in
     let e : l .k ≡ 0 = omega arith in
-    sym (l .inv .3 ∙ (λ j. traced (a .rounds .now) (a .ls .now) (e j) (l .q .0) ++ drop (suc (e j)) (l .chain)) ∙ traced-end (a .rounds .now) (a .ls .now) (l .chain) (l .q .0) (omega arith) ∙ ap (set (l .chain) 0) (sym (c .number2 .ensures)))
+    sym (l .inv .3 ∙ (λ j. traced (a .rounds .now) (a .ls .now) (e j) (l .q .0) ++ drop (suc (e j)) (l .chain))
+    ∙ traced-end (a .rounds .now) (a .ls .now) (l .chain) (l .q .0) (omega arith) ∙ ap (set (l .chain) 0) (sym (c .number2 .ensures)))
 
 pub write-chain-spec : {M : Type 1} → statement M
 write-chain-spec =

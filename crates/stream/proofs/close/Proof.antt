@@ -1,3 +1,5 @@
+-- With too little room or too many lines nothing is written (`small`, `many`, `closes-none`). Otherwise it is the last line alone
+-- (`closes-last`), or one for the line that has begun before it: 256 bytes are room for both (`closes-begun`).
 use borrow.Author.Tests.{not-true, not-false}
 use Rattle.stream.proofs.Session.{small, many, closes-none, closes-last, closes-begun}
 use borrow.Author.Needs.{needs}
@@ -22,7 +24,10 @@ same-length : tie.Need-same-length
 same-length c = search needs
 
 returns-3 : tie.Need-returns-3
-returns-3 c = closes-last _ _ _ (c .before .before .before .before .before .before .before .if1 .left) (sym (c .before .before .before .before .before .is-begun .ensures) ∙ not-true _ (c .before .before .before .before .if3 .taken)) _ _ (c .before .before .put-last .ensures) (c .before .before .before .before .before .before .if2 .left)
+returns-3 c =
+    closes-last _ _ _ (c .before .before .before .before .before .before .before .if1 .left)
+    (sym (c .before .before .before .before .before .is-begun .ensures) ∙ not-true _ (c .before .before .before .before .if3 .taken)) _ _
+    (c .before .before .put-last .ensures) (c .before .before .before .before .before .before .if2 .left)
 
 malformed-requires : tie.Need-malformed-requires
 malformed-requires c κs = search needs
@@ -43,7 +48,14 @@ same-length-2 : tie.Need-same-length-2
 same-length-2 c = search needs
 
 returns-4 : tie.Need-returns-4
-returns-4 c = closes-begun _ _ _ (c .before .before .before .before .before .before .before .before .before .before .before .before .if1 .left) (sym (c .before .before .before .before .before .before .before .before .before .before .is-begun .ensures) ∙ not-false _ (c .before .before .before .before .before .before .before .before .before .if3 .left)) _ _ _ _ _ (c .before .before .before .before .before .before .before .before .malformed .ensures) (c .before .before .before .before .before .before .put-line .ensures) (c .before .before .before .before .before .before .put-line .kept .0) (c .before .before .put-last2 .ensures) (c .before .before .before .before .before .before .before .before .before .before .before .if2 .left)
+returns-4 c =
+    closes-begun _ _ _ (c .before .before .before .before .before .before .before .before .before .before .before .before .if1 .left)
+    (sym (c .before .before .before .before .before .before .before .before .before .before .is-begun .ensures)
+    ∙ not-false _ (c .before .before .before .before .before .before .before .before .before .if3 .left)) _ _ _ _ _
+    (c .before .before .before .before .before .before .before .before .malformed .ensures)
+    (c .before .before .before .before .before .before .put-line .ensures)
+    (c .before .before .before .before .before .before .put-line .kept .0) (c .before .before .put-last2 .ensures)
+    (c .before .before .before .before .before .before .before .before .before .before .before .if2 .left)
 
 pub close-spec : {M : Type 1} → statement M
 close-spec =

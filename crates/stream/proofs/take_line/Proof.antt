@@ -1,3 +1,4 @@
+-- The units reply to what the line held asks for (`as-asked`), and there is room, so its output is written (`line-runs`).
 use Rattle.reader.proofs.Replies.{as-asked}
 use Rattle.stream.proofs.Session.{line-runs}
 use borrow.Author.Needs.{needs}
@@ -33,7 +34,8 @@ same-length-5 : tie.Need-same-length-5
 same-length-5 c = search needs
 
 returns : tie.Need-returns
-returns c = line-runs _ _ _ _ _ _ _ _ _ _ (c .before .before .before .before .before .before .before .before .before .before .before .before .before .before .before .before .before .before .before .before .before .before .before .before .before .before .pre .0) (as-asked (sym (c .before .before .before .before .before .before .before .before .before .before .before .before .before .before .before .before .before .before .before .line .ensures)) (c .before .before .before .before .before .before .before .before .before .before .before .before .before .before .run .ensures)) (c .before .before .put-line .ensures)
+returns c =
+    line-runs _ _ _ _ _ _ _ _ _ _ (c .before .before .before .before .before .before .before .before .before .before .before .before .before .before .before .before .before .before .before .before .before .before .before .before .before .before .pre .0) (as-asked (sym (c .before .before .before .before .before .before .before .before .before .before .before .before .before .before .before .before .before .before .before .line .ensures)) (c .before .before .before .before .before .before .before .before .before .before .before .before .before .before .run .ensures)) (c .before .before .put-line .ensures)
 
 pub take-line-spec : {M : Type 1} → statement M
 take-line-spec =

@@ -1,3 +1,5 @@
+-- A chunk in which no line ends is held, and nothing is written (`takes-open`); in the other case the line is run, counted, and nothing
+-- is held (`takes-ended`). The run is below its last line, so counting does not wrap.
 use borrow.Author.Tests.{not-true, not-false}
 use Rattle.stream.proofs.Session.{takes-open, takes-ended}
 use borrow.Author.Needs.{needs}
@@ -12,7 +14,10 @@ same-length : tie.Need-same-length
 same-length c = search needs
 
 returns : tie.Need-returns
-returns c = takes-open _ _ _ _ _ _ _ _ (c .before .before .before .before .before .feed .result) (c .before .before .before .before .before .feed .ensures .0) (c .before .before .before .before .before .feed .ensures .1) (not-true _ (c .if1 .taken))
+returns c =
+    takes-open _ _ _ _ _ _ _ _ (c .before .before .before .before .before .feed .result)
+    (c .before .before .before .before .before .feed .ensures .0) (c .before .before .before .before .before .feed .ensures .1)
+    (not-true _ (c .if1 .taken))
 
 take-line-requires : tie.Need-take-line-requires
 take-line-requires c κs = search needs
@@ -21,7 +26,8 @@ none-requires : tie.Need-none-requires
 none-requires c κs = search needs
 
 add-t33 : tie.Need-add-t33
-add-t33 c = omega (arith, c .before .before .before .before .before .before .before .before .before .before .before .before .before .before .before .before .before .before .before .before .before .before .before .before .before .before .before .before .before .before .before .before .before .pre .1)
+add-t33 c =
+    omega (arith, c .before .before .before .before .before .before .before .before .before .before .before .before .before .before .before .before .before .before .before .before .before .before .before .before .before .before .before .before .before .before .before .before .before .pre .1)
 
 same-length-2 : tie.Need-same-length-2
 same-length-2 c = search needs
@@ -42,7 +48,8 @@ same-length-7 : tie.Need-same-length-7
 same-length-7 c = search needs
 
 returns-2 : tie.Need-returns-2
-returns-2 c = takes-ended _ _ _ _ _ _ _ _ (c .before .before .before .before .before .before .before .before .before .before .before .before .before .before .before .before .before .before .before .before .before .before .before .feed .result) (c .before .before .before .before .before .before .before .before .before .before .before .before .before .before .before .before .before .before .before .before .before .before .before .feed .ensures .0) (c .before .before .before .before .before .before .before .before .before .before .before .before .before .before .before .before .before .before .before .before .before .before .before .feed .ensures .1) (not-false _ (c .before .before .before .before .before .before .before .before .before .before .before .before .before .before .before .before .before .before .if1 .left)) _ _ _ _ (c .none .ensures) (c .before .before .before .before .before .before .before .before .before .before .before .take-line .ensures)
+returns-2 c =
+    takes-ended _ _ _ _ _ _ _ _ (c .before .before .before .before .before .before .before .before .before .before .before .before .before .before .before .before .before .before .before .before .before .before .before .feed .result) (c .before .before .before .before .before .before .before .before .before .before .before .before .before .before .before .before .before .before .before .before .before .before .before .feed .ensures .0) (c .before .before .before .before .before .before .before .before .before .before .before .before .before .before .before .before .before .before .before .before .before .before .before .feed .ensures .1) (not-false _ (c .before .before .before .before .before .before .before .before .before .before .before .before .before .before .before .before .before .before .if1 .left)) _ _ _ _ (c .none .ensures) (c .before .before .before .before .before .before .before .before .before .before .before .take-line .ensures)
 
 pub take-piece-spec : {M : Type 1} → statement M
 take-piece-spec =

@@ -1,3 +1,5 @@
+-- After j turns the first j of the spaced bytes are 0 and the others as before (`Zeroed`); at the end j is the count. The last of
+-- them is within the image, so each is (`below`): no index is beyond it.
 use borrow.Author.Needs.{needs}
 use native.Mathlib.Omega.{arith}
 use mathlib.Core.Path.{_≡_}
@@ -28,15 +30,30 @@ loop-holds c = (search needs, search needs, zeroed-none _ _)
 
 mul-image : tie.Need-mul-image Inv-loop μ-loop
 mul-image c =
-    omega (arith, below (c .before .before .args .step) (c .before .loop .j) (c .before .before .args .count) (omega arith), c .before .loop .inv .2 .long)
+    omega (
+      arith,
+      below (c .before .before .args .step) (c .before .loop .j) (c .before .before .args .count)
+          (omega arith),
+      c .before .loop .inv .2 .long,
+    )
 
 add-image : tie.Need-add-image Inv-loop μ-loop
 add-image c =
-    omega (arith, below (c .before .before .args .step) (c .before .loop .j) (c .before .before .args .count) (omega arith), c .before .loop .inv .2 .long)
+    omega (
+      arith,
+      below (c .before .before .args .step) (c .before .loop .j) (c .before .before .args .count)
+          (omega arith),
+      c .before .loop .inv .2 .long,
+    )
 
 slice-write-image : tie.Need-slice-write-image Inv-loop μ-loop
 slice-write-image c =
-    omega (arith, below (c .before .before .args .step) (c .before .loop .j) (c .before .before .args .count) (omega arith), c .before .loop .inv .2 .long)
+    omega (
+      arith,
+      below (c .before .before .args .step) (c .before .loop .j) (c .before .before .args .count)
+          (omega arith),
+      c .before .loop .inv .2 .long,
+    )
 
 add-j : tie.Need-add-j Inv-loop μ-loop
 add-j c = search needs
@@ -47,8 +64,12 @@ loop-less c = search needs
 loop-again : tie.Need-loop-again Inv-loop μ-loop
 loop-again c =
     let l = c .before .loop in
-    let a = c .before .before .args in
-    (search needs, search needs, zeroed-more (λ (i : ℕ). a .at + a .step * i) _ (l .j) (l .image) (l .inv .2) (omega (arith, below (a .step) (l .j) (a .count) (omega arith))))
+    let a = c .before .before .args in (
+      search needs,
+      search needs,
+      zeroed-more (λ (i : ℕ). a .at + a .step * i) _ (l .j) (l .image) (l .inv .2)
+          (omega (arith, below (a .step) (l .j) (a .count) (omega arith))),
+    )
 
 same-length : tie.Need-same-length Inv-loop μ-loop
 same-length c = c .before .loop .inv .2 .long

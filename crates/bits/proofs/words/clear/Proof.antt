@@ -1,3 +1,4 @@
+-- After k turns the first k words are 0 (`Swept`); at the end that is all of them.
 use mathlib.Core.Path.{refl}
 use Prim.Native.Nat.{_-_, _≤_}
 use native.Mathlib.Omega.{arith}

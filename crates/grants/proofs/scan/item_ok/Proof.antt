@@ -1,3 +1,5 @@
+-- The masks of the item and of a person together hide a byte where both live, and show it whole where either is dead; so nothing is
+-- shown exactly where the block names living items only (`item-passes`).
 use borrow.Author.Needs.{needs}
 use native.Mathlib.Omega.{arith}
 use lib.ListN.{length-take, length-drop}
@@ -32,7 +34,8 @@ hides-requires c κs = simp (length-take, length-drop) (omega arith)
 returns : tie.Need-returns
 returns c =
     let q = c .before .before .before .before in
-    item-passes (q .args .grants .now) (q .args .on) (q .pre .1) (λ i. omega (arith, c .before .before .before .shared-slice-known .given i)) _ (q .args .masks .now) (q .pre .2) (c .hides .ensures)
+    item-passes (q .args .grants .now) (q .args .on) (q .pre .1)
+    (λ i. omega (arith, c .before .before .before .shared-slice-known .given i)) _ (q .args .masks .now) (q .pre .2) (c .hides .ensures)
 
 pub item-ok-spec : {M : Type 1} → statement M
 item-ok-spec =

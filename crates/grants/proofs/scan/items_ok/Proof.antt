@@ -1,3 +1,5 @@
+-- The blocks passed so far are in order (`below-step`); the first that is not ends the loop with no (`below-stop`). At the end that is
+-- all 64.
 use borrow.Author.Needs.{needs}
 use native.Mathlib.Omega.{arith}
 use mathlib.Core.Path.{_≡_, sym, _∙_}
@@ -25,7 +27,8 @@ item-ok-requires c κs = search needs
 
 returns : tie.Need-returns Inv-loop μ-loop
 returns c =
-    sym (below-stop 64 (blockOk grantBytes (c .before .before .before .before .before .args .grants .now) 4096) (c .before .before .before .loop .on) (search needs) (sym (c .before .item-ok .ensures) ∙ not-true _ (c .if1 .taken)))
+    sym (below-stop 64 (blockOk grantBytes (c .before .before .before .before .before .args .grants .now) 4096)
+    (c .before .before .before .loop .on) (search needs) (sym (c .before .item-ok .ensures) ∙ not-true _ (c .if1 .taken)))
 
 add-on : tie.Need-add-on Inv-loop μ-loop
 add-on c = search needs
@@ -34,7 +37,11 @@ loop-less : tie.Need-loop-less Inv-loop μ-loop
 loop-less c = search needs
 
 loop-again : tie.Need-loop-again Inv-loop μ-loop
-loop-again c = (search needs, below-step (c .before .before .before .loop .on) _ (c .before .before .before .loop .inv .1) (sym (c .before .item-ok .ensures) ∙ not-false _ (c .if1 .left)))
+loop-again c = (
+  search needs,
+  below-step (c .before .before .before .loop .on) _ (c .before .before .before .loop .inv .1)
+      (sym (c .before .item-ok .ensures) ∙ not-false _ (c .if1 .left)),
+)
 
 returns-2 : tie.Need-returns-2 Inv-loop μ-loop
 returns-2 c =

@@ -1,3 +1,5 @@
+-- After p turns the bits gathered are 0 exactly where the masks show nothing of the first p bytes of each row: the eight rows ORed
+-- show nothing under a mask where none of them does (`eight-masked`). At the end p is 64.
 use borrow.Author.Needs.{needs}
 use native.Mathlib.Omega.{arith}
 use mathlib.Core.Path.{_≡_, sym}
@@ -13,7 +15,8 @@ use Rattle.layouts.proofs.live.hides.Tie as tie
 
 abbrev Inv-loop : tie.InvT-loop
 Inv-loop block all masks bits₀ p₀ bits p =
-    (p ≤ 64) × (eqb bits 0 ≡ allBelow p (λ (k : ℕ). allBelow 8 (λ (i : ℕ). eqb (bitAnd (getD block (k + 64 * i) 0) (bitOr all (getD masks k 0))) 0)))
+    (p ≤ 64) × (eqb bits 0 ≡ allBelow p
+    (λ (k : ℕ). allBelow 8 (λ (i : ℕ). eqb (bitAnd (getD block (k + 64 * i) 0) (bitOr all (getD masks k 0))) 0)))
 
 abbrev μ-loop : tie.MeasureT-loop
 μ-loop block all masks bits₀ p₀ bits p = 64 - p

@@ -1,3 +1,5 @@
+-- Where the buffer ends before the item's byte, that byte counts as 0 and has no bit (`bit-of-zero`); otherwise the bit of the byte
+-- is the item's bit, since it is bit i % 8 of byte i / 8.
 use mathlib.Core.Path.{sym, ap, _∙_}
 use Prim.Native.Nat.{ℕ, _-_, _/_, _%_, _≤_}
 use native.Mathlib.Omega.{arith}

@@ -1,3 +1,4 @@
+-- After k turns the first k bytes are those of the image, 0 past its end (`Swept`); after 8 turns that is the table of all eight.
 use borrow.Author.Needs.{needs}
 use native.Mathlib.Omega.{arith}
 use mathlib.Core.Path.{_≡_, refl}

@@ -1,3 +1,5 @@
+-- After i turns the first i masks are in place (`Swept`): bit i of the image is in one of its first eight bytes, those that were
+-- copied. After 64 turns that is the table of all masks (`swept-table`).
 use borrow.Author.Needs.{needs}
 use native.Mathlib.Omega.{arith}
 use mathlib.Core.Path.{_≡_, refl, ap, _∙_}
@@ -55,15 +57,21 @@ loop-again c =
     let l = c .before .before .before .loop in
     let s = c .before .before .before .before .before .before .args .image .now in
     let b : l .i / 8 < 8 = omega arith in
-    let e = ap (λ (d : List ℕ). getD d (l .i / 8) 0) (c .before .before .before .before .live-bytes .ensures) ∙ getD-tabulate 8 (λ (k : ℕ). getD s k 0) (l .i / 8) 0 b in
-    let q = c .before .has .ensures ∙ ap (λ (x : ℕ). bit x (l .i % 8)) e in
-    (search needs, simp length-set (l .inv .1), swept-more _ _ (l .i) (l .masks) _ (l .inv .2) (omega arith) (c .mask-of .ensures ∙ ap (λ b. cond b 0 255) q))
+    let e = ap (λ (d : List ℕ). getD d (l .i / 8) 0) (c .before .before .before .before .live-bytes .ensures)
+    ∙ getD-tabulate 8 (λ (k : ℕ). getD s k 0) (l .i / 8) 0 b in
+    let q = c .before .has .ensures ∙ ap (λ (x : ℕ). bit x (l .i % 8)) e in (
+      search needs,
+      simp length-set (l .inv .1),
+      swept-more _ _ (l .i) (l .masks) _ (l .inv .2) (omega arith)
+          (c .mask-of .ensures ∙ ap (λ b. cond b 0 255) q),
+    )
 
 returns : tie.Need-returns Inv-loop μ-loop
 unfolding masksOf
 returns c =
     let e : c .before .loop .i ≡ 64 = omega arith in
-    swept-table 64 (λ (k : ℕ). cond (at 8 (c .before .before .before .before .args .image .now) k) 0 255) _ _ refl (rw e at (c .before .loop .inv .2))
+    swept-table 64 (λ (k : ℕ). cond (at 8 (c .before .before .before .before .args .image .now) k) 0 255) _ _ refl
+    (rw e at (c .before .loop .inv .2))
 
 pub masks-spec : {M : Type 1} → statement M
 masks-spec =

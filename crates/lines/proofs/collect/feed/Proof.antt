@@ -1,3 +1,5 @@
+-- The bytes up to the line's end go past the buffer, and then only that is noted (`fed-past`); or they have room (`past-room`) and
+-- are put behind those held (`fed-more`).
 use lib.Seq.{length-take-le}
 use Rattle.lines.proofs.Chunks.{past-room, fed-past, fed-more}
 use borrow.Author.Needs.{needs}
@@ -19,12 +21,14 @@ is-past-requires c κs = search needs
 returns : tie.Need-returns
 returns c =
     let a = c .before .before .before .before .before .before .args in
-    fed-past (a .buf .now) (a .p) (a .chunk .now) _ _ (c .before .before .before .line-end .ensures .0) (c .before .before .after-line .ensures)
+    fed-past (a .buf .now) (a .p) (a .chunk .now) _ _ (c .before .before .before .line-end .ensures .0)
+    (c .before .before .after-line .ensures)
     (sym (c .before .is-past .ensures) ∙ c .if1 .taken)
 
 slice-aggregate-put-bytes : tie.Need-slice-aggregate-put-bytes
 slice-aggregate-put-bytes c =
-    sym (length-take-le (c .before .before .before .before .before .line-end .result) (c .before .before .before .before .before .before .before .before .args .chunk .now) (omega arith))
+    sym (length-take-le (c .before .before .before .before .before .line-end .result)
+    (c .before .before .before .before .before .before .before .before .args .chunk .now) (omega arith))
 
 put-bytes-requires : tie.Need-put-bytes-requires
 put-bytes-requires c κs =
@@ -38,7 +42,8 @@ same-length c = search needs
 returns-2 : tie.Need-returns-2
 returns-2 c =
     let a = c .before .before .before .before .before .before .before .before .before .before .before .args in
-    fed-more (a .buf .now) (a .p) (a .chunk .now) _ _ (c .before .before .before .before .before .before .before .before .line-end .ensures .0)
+    fed-more (a .buf .now) (a .p) (a .chunk .now) _ _
+    (c .before .before .before .before .before .before .before .before .line-end .ensures .0)
     (c .before .before .before .before .before .before .before .after-line .ensures)
     (sym (c .before .before .before .before .before .before .is-past .ensures) ∙ c .before .before .before .before .before .if1 .left)
     _ _ (c .before .before .put-bytes .ensures .place) (c .before .before .put-bytes .ensures .buffer)

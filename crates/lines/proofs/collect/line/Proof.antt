@@ -1,3 +1,4 @@
+-- A line that went past the buffer is malformed; otherwise the bytes held are within it (`past-room`), and those are parsed.
 use lib.Seq.{length-take-le}
 use Rattle.lines.proofs.Chunks.{past-room}
 use borrow.Author.Needs.{needs}
@@ -16,7 +17,8 @@ returns c = rw (sym (c .before .is-past .ensures) ∙ c .if1 .taken)
 slice-aggregate-parse : tie.Need-slice-aggregate-parse
 slice-aggregate-parse c =
     let a = c .before .before .before .before .args in
-    sym (length-take-le (a .held .len) (a .buf .now) (omega (arith, past-room (length (a .buf .now)) (a .held) 0 (sym (c .before .before .is-past .ensures) ∙ c .before .if1 .left))))
+    sym (length-take-le (a .held .len) (a .buf .now)
+    (omega (arith, past-room (length (a .buf .now)) (a .held) 0 (sym (c .before .before .is-past .ensures) ∙ c .before .if1 .left))))
 
 parse-requires : tie.Need-parse-requires
 parse-requires c κs = search needs

@@ -1,3 +1,5 @@
+-- The bytes before the first byte 10 are the i passed and those before it in the rest: the loop stops at that byte (`newline-here`),
+-- passes any other (`newline-later`), or comes to the end (`newline-end`).
 use Rattle.lines.proofs.Chunks.{newline-here, newline-later, newline-end}
 use Rattle.lines.specs.Collect.{beforeNewline}
 use borrow.Author.Needs.{needs}

@@ -1,3 +1,5 @@
+-- By recursion on n, which falls: one digit is the number itself (`shown-one`); of more, all but the last are those of n / 10, and the
+-- last is stored right after them (`shown-more`, `sets-snoc`).
 use borrow.Author.Needs.{needs}
 use native.Mathlib.Omega.{arith}
 use mathlib.Core.Path.{refl, ap}
@@ -72,7 +74,8 @@ put-number-put-number-requires : (t : ℕ) → put-number-lts.Need-put-number-re
   put-number-below t,
   put-number.Post,
 ) (put-number-at t) put-number.Post
-put-number-put-number-requires t c κs = (omega arith, omega (arith, shown-more-length (c .before .before .before .args .n) (c .before .if1 .left)))
+put-number-put-number-requires t c κs =
+    (omega arith, omega (arith, shown-more-length (c .before .before .before .args .n) (c .before .if1 .left)))
 
 put-number-cast-buf-2 : (t : ℕ) → put-number-lts.Need-cast-buf-2 (
   put-number-below t,
@@ -90,13 +93,23 @@ put-number-slice-write-buf-2 : (t : ℕ) → put-number-lts.Need-slice-write-buf
   put-number-below t,
   put-number.Post,
 ) (put-number-at t) put-number.Post
-put-number-slice-write-buf-2 t c = omega (arith, shown-more-length (c .before .before .before .before .before .before .args .n) (c .before .before .before .before .if1 .left))
+put-number-slice-write-buf-2 t c =
+    omega (
+      arith,
+      shown-more-length (c .before .before .before .before .before .before .args .n)
+          (c .before .before .before .before .if1 .left),
+    )
 
 put-number-add-result-2 : (t : ℕ) → put-number-lts.Need-add-result-2 (
   put-number-below t,
   put-number.Post,
 ) (put-number-at t) put-number.Post
-put-number-add-result-2 t c = omega (arith, shown-more-length (c .before .before .before .before .before .before .args .n) (c .before .before .before .before .if1 .left))
+put-number-add-result-2 t c =
+    omega (
+      arith,
+      shown-more-length (c .before .before .before .before .before .before .args .n)
+          (c .before .before .before .before .if1 .left),
+    )
 
 put-number-same-length-2 : (t : ℕ) → put-number-lts.Need-same-length-2 (
   put-number-below t,
@@ -113,7 +126,9 @@ put-number-returns-2 t c =
     let p = c .before .before .put-number in
     record {
       place = omega (arith, shown-more-length (a .n) (c .before .before .before .before .if1 .left));
-      buffer = rw (p .ensures .buffer, p .ensures .place, shown-more (a .n) (c .before .before .before .before .if1 .left)) (sets-snoc (a .buf .now) (a .at) (shown (a .n / 10)) (48 + a .n % 10));
+      buffer =
+          rw (p .ensures .buffer, p .ensures .place, shown-more (a .n) (c .before .before .before .before .if1 .left))
+          (sets-snoc (a .buf .now) (a .at) (shown (a .n / 10)) (48 + a .n % 10));
     }
 
 pub +put-number-spec : {M : Type 1} → statement M

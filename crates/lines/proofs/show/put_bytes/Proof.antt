@@ -1,3 +1,4 @@
+-- After j turns the first j bytes stand in the buffer from the place on (`store-next`); at the end that is the whole part.
 use Rattle.lines.proofs.Chunks.{store-next}
 use lib.Seq.{sets, take-all}
 use borrow.Author.Needs.{needs}

@@ -1,3 +1,5 @@
+-- All loans name living items exactly where the flags ORed so far are 0 and those of the rest do (`scan-next`); at the end the rest is
+-- empty (`scan-end`).
 use borrow.Author.Needs.{needs}
 use native.Mathlib.Omega.{arith}
 use mathlib.Core.Path.{_≡_, refl, ap, _∙_}
@@ -13,7 +15,8 @@ use Rattle.loans.proofs.order.are_live.Statement.{statement}
 use Rattle.loans.proofs.order.are_live.Tie as tie
 
 abbrev Inv-loop : tie.InvT-loop
-Inv-loop s masks bad₀ i₀ bad i = (i ≤ length s) × (all (namesLive (unmasked masks)) s ≡ eqb bad 0 && all (namesLive (unmasked masks)) (drop i s))
+Inv-loop s masks bad₀ i₀ bad i =
+    (i ≤ length s) × (all (namesLive (unmasked masks)) s ≡ eqb bad 0 && all (namesLive (unmasked masks)) (drop i s))
 
 abbrev μ-loop : tie.MeasureT-loop
 μ-loop s masks bad₀ i₀ bad i = length s - i

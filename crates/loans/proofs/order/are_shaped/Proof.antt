@@ -1,3 +1,5 @@
+-- All words have a loan's shape exactly where the flags ORed so far are 0 and those of the rest have it (`scan-next`); at the end the
+-- rest is empty (`scan-end`).
 use borrow.Author.Needs.{needs}
 use native.Mathlib.Omega.{arith}
 use mathlib.Core.Path.{_≡_, refl, ap, _∙_}

@@ -1,3 +1,5 @@
+-- All words are 0 exactly where those ORed so far are and those of the rest are (`scan-next`); at the end the rest is empty
+-- (`scan-end`).
 use borrow.Author.Needs.{needs}
 use native.Mathlib.Omega.{arith}
 use mathlib.Core.Path.{_≡_, refl, ap, _∙_}

@@ -1,3 +1,5 @@
+-- With the right length and count, order is four tests of the words: those in use rise, have a loan's shape and name living items,
+-- and the later ones are 0 (`order-parts`). Each test that fails ends it with no, and the last decides.
 use borrow.Author.Needs.{needs}
 use native.Mathlib.Omega.{arith}
 use mathlib.Core.Path.{_≡_, sym, ap, _∙_}
@@ -21,10 +23,12 @@ parts : (c : tie.After-in-use)
     let live = unmasked (c .before .before .before .before .before .before .args .masks .now) in
     let p = take (c .in-use .result + 1 - 1) (drop 1 t) in
     eqb (length t) loanWords && loansInOrder live t
-    ≡ rising p && all shaped p && all (namesLive live) p && all (eqb 0) (take (length t - (c .in-use .result + 1)) (drop (c .in-use .result + 1) t))
+    ≡ rising p && all shaped p && all (namesLive live) p && all (eqb 0)
+    (take (length t - (c .in-use .result + 1)) (drop (c .in-use .result + 1) t))
 parts c =
     let a = c .before .before .before .before .before .before .args in
-    order-parts (unmasked (a .masks .now)) (a .loans .now) (c .in-use .result) (c .before .before .before .before .if1 .left) (omega (arith, ap (λ (h : Header). h .count) (c .before .before .before .header-of .ensures))) (c .in-use .ensures)
+    order-parts (unmasked (a .masks .now)) (a .loans .now) (c .in-use .result) (c .before .before .before .before .if1 .left)
+    (omega (arith, ap (λ (h : Header). h .count) (c .before .before .before .header-of .ensures))) (c .in-use .ensures)
 
 returns : tie.Need-returns
 returns c = rw (ne-eqb _ _ (c .if1 .taken))
@@ -36,7 +40,11 @@ returns-2 : tie.Need-returns-2
 unfolding loansInOrder
 returns-2 c =
     let t = c .before .before .before .before .before .args .loans .now in
-    rw (eq-eqb (length t) loanWords (c .before .before .before .if1 .left), lt-leb (countOf t) mostLoans (omega (arith, ap (λ (h : Header). h .count) (c .before .before .header-of .ensures))))
+    rw (
+      eq-eqb (length t) loanWords (c .before .before .before .if1 .left),
+      lt-leb (countOf t) mostLoans
+          (omega (arith, ap (λ (h : Header). h .count) (c .before .before .header-of .ensures))),
+    )
 
 in-use-requires : tie.Need-in-use-requires
 in-use-requires c κs = search needs
@@ -75,7 +83,13 @@ are-shaped-requires : tie.Need-are-shaped-requires
 are-shaped-requires c κs = search needs
 
 returns-4 : tie.Need-returns-4
-returns-4 c = sym (parts (c .before .before .before .before .before .before) ∙ rw (sym (c .before .before .before .before .rises .ensures) ∙ not-false _ (c .before .before .before .if3 .left), sym (c .before .are-shaped .ensures) ∙ not-true _ (c .if4 .taken)))
+returns-4 c =
+    sym (parts (c .before .before .before .before .before .before)
+    ∙ rw (
+      sym (c .before .before .before .before .rises .ensures)
+          ∙ not-false _ (c .before .before .before .if3 .left),
+      sym (c .before .are-shaped .ensures) ∙ not-true _ (c .if4 .taken),
+    ))
 
 add-are-live : tie.Need-add-are-live
 add-are-live c = search needs
@@ -93,7 +107,16 @@ are-live-requires : tie.Need-are-live-requires
 are-live-requires c κs = search needs
 
 returns-5 : tie.Need-returns-5
-returns-5 c = sym (parts (c .before .before .before .before .before .before .before .before .before) ∙ rw (sym (c .before .before .before .before .before .before .before .rises .ensures) ∙ not-false _ (c .before .before .before .before .before .before .if3 .left), sym (c .before .before .before .before .are-shaped .ensures) ∙ not-false _ (c .before .before .before .if4 .left), sym (c .before .are-live .ensures) ∙ not-true _ (c .if5 .taken)))
+returns-5 c =
+    sym (parts (c .before .before .before .before .before .before .before .before .before)
+    ∙ rw (
+      sym (c .before .before .before .before .before .before .before .rises .ensures)
+          ∙ not-false _ (c .before .before .before .before .before .before .if3 .left),
+      sym
+          (c .before .before .before .before .are-shaped .ensures)
+          ∙ not-false _ (c .before .before .before .if4 .left),
+      sym (c .before .are-live .ensures) ∙ not-true _ (c .if5 .taken),
+    ))
 
 add-are-zero : tie.Need-add-are-zero
 add-are-zero c = search needs
@@ -114,7 +137,17 @@ are-zero-requires : tie.Need-are-zero-requires
 are-zero-requires c κs = search needs
 
 returns-6 : tie.Need-returns-6
-returns-6 c = c .are-zero .ensures ∙ sym (parts (c .before .before .before .before .before .before .before .before .before .before .before) ∙ rw (sym (c .before .before .before .before .before .before .before .before .before .rises .ensures) ∙ not-false _ (c .before .before .before .before .before .before .before .before .if3 .left), sym (c .before .before .before .before .before .before .are-shaped .ensures) ∙ not-false _ (c .before .before .before .before .before .if4 .left), sym (c .before .before .before .are-live .ensures) ∙ not-false _ (c .before .before .if5 .left)))
+returns-6 c =
+    c .are-zero .ensures ∙ sym (parts (c .before .before .before .before .before .before .before .before .before .before .before)
+    ∙ rw (
+      sym (c .before .before .before .before .before .before .before .before .before .rises .ensures)
+          ∙ not-false _ (c .before .before .before .before .before .before .before .before .if3 .left),
+      sym
+          (c .before .before .before .before .before .before .are-shaped .ensures)
+          ∙ not-false _ (c .before .before .before .before .before .if4 .left),
+      sym (c .before .before .before .are-live .ensures)
+          ∙ not-false _ (c .before .before .if5 .left),
+    ))
 
 pub in-order-spec : {M : Type 1} → statement M
 in-order-spec =

@@ -1,3 +1,4 @@
+-- A mask is 0 where its item lives, so three masks ORed are 0 exactly where all three live (`names-zero`).
 use borrow.Author.Needs.{needs}
 use mathlib.Core.Path.{_∙_}
 use Rattle.loans.proofs.Loops.{names-zero}
@@ -42,7 +43,9 @@ element-copy-out-result-3 c = search needs
 
 returns : tie.Need-returns
 returns c =
-    names-zero (c .before .before .before .before .before .before .before .before .before .args .masks .now) (c .before .before .before .before .before .before .before .number .result) (c .before .before .before .before .before .number2 .result) (c .before .before .before .number3 .result)
+    names-zero (c .before .before .before .before .before .before .before .before .before .args .masks .now)
+    (c .before .before .before .before .before .before .before .number .result)
+    (c .before .before .before .before .before .number2 .result) (c .before .before .before .number3 .result)
     ∙ rw (c .before .before .before .before .before .before .before .number .ensures, c .before .before .before .before .before .number2 .ensures, c .before .before .before .number3 .ensures, c .before .before .before .before .before .before .before .before .lender .ensures, c .before .before .before .before .before .before .item .ensures, c .before .before .before .before .borrower .ensures)
 
 pub names-flag-spec : {M : Type 1} → statement M

@@ -1,3 +1,5 @@
+-- The words rise exactly where the flags ORed so far are 0 and the rest rises (`rising-next`, `scan-next`); at the end at most one word
+-- is left, which rises (`rising-short`).
 use borrow.Author.Needs.{needs}
 use native.Mathlib.Omega.{arith}
 use mathlib.Core.Path.{_≡_, refl, ap, _∙_}

@@ -1,3 +1,4 @@
+-- In each arm the arguments given to `of` are those of the command, which the match has told.
 use borrow.Author.Needs.{needs}
 use mathlib.Core.Path.{sym, ap, _∙_}
 use Rattle.model.specs.Commands.{argumentsOf}

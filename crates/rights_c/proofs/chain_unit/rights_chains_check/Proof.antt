@@ -1,3 +1,5 @@
+-- The unit's answer tells its number and what was found (`chain-told`); the number is returned, depth and persons are written, and
+-- chain buffer and images are as the unit left them.
 use borrow.Author.Needs.{needs}
 use mathlib.Core.Path.{ap, _∙_}
 use Rattle.model.specs.Answers.{Found}

@@ -1,3 +1,5 @@
+-- After i turns the byte is the first i bytes of the row ORed (`or-step`); at the end that is all of them, and the test is whether it
+-- is 0.
 use mathlib.Core.Path.{_≡_, refl, sym, ap}
 use mathlib.Core.Bool.{not}
 use Prim.Native.Nat.{ℕ, _-_, _≤_}

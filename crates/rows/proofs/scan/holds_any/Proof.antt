@@ -28,7 +28,8 @@ has-right-requires c κs = search needs
 returns : tie.Need-returns
 returns c =
     let start = c .before .before .before in
-    row-holds (start .args .image .now) (λ i. omega (arith, c .before .before .shared-slice-known .given i)) (start .args .who) (start .pre .0) (start .pre .1) _ (c .has-right .ensures)
+    row-holds (start .args .image .now) (λ i. omega (arith, c .before .before .shared-slice-known .given i)) (start .args .who)
+    (start .pre .0) (start .pre .1) _ (c .has-right .ensures)
 
 pub holds-any-spec : {M : Type 1} → statement M
 holds-any-spec =

@@ -1,3 +1,5 @@
+-- A row has one byte for each item, and a mask hides it where the item lives and shows it whole where it is dead; so nothing of the
+-- eight rows is shown exactly where they have rights on living items only (`items-pass`).
 use borrow.Author.Needs.{needs}
 use native.Mathlib.Omega.{arith}
 use Rattle.rows.proofs.Scans.{items-pass}
@@ -29,7 +31,8 @@ hides-requires c κs = simp (length-take, length-drop) (omega arith)
 returns : tie.Need-returns
 returns c =
     let start = c .before .before .before in
-    items-pass (start .args .image .now) (λ i. omega (arith, c .before .before .shared-slice-known .given i)) (start .args .k) (start .args .masks .now) _ (start .pre .2) (c .hides .ensures)
+    items-pass (start .args .image .now) (λ i. omega (arith, c .before .before .shared-slice-known .given i)) (start .args .k)
+    (start .args .masks .now) _ (start .pre .2) (c .hides .ensures)
 
 pub items-live-spec : {M : Type 1} → statement M
 items-live-spec =

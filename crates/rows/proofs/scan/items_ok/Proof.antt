@@ -1,3 +1,5 @@
+-- The eights of rows passed so far have rights on living items only (`below-step`); the first that does not ends the loop with no
+-- (`below-stop`). Eight times eight are all 64 rows (`below-nested`).
 use mathlib.Core.Bool.{true}
 use mathlib.Core.Path.{_≡_, sym, _∙_}
 use Prim.Native.Nat.{ℕ, _+_, _*_, _-_, _≤_}
@@ -26,7 +28,9 @@ items-live-requires c κs = search needs
 returns : tie.Need-returns Inv-loop μ-loop
 returns c =
     let s = c .before .before .before .before .before .args .image .now in
-    sym (below-nested 8 8 (itemsOk rows s 512) ∙ below-stop 8 (λ (i : ℕ). allBelow 8 (λ (j : ℕ). itemsOk rows s 512 (8 * i + j))) (c .before .before .before .loop .k) (search needs) (sym (c .before .items-live .ensures) ∙ not-true _ (c .if1 .taken)))
+    sym (below-nested 8 8 (itemsOk rows s 512)
+    ∙ below-stop 8 (λ (i : ℕ). allBelow 8 (λ (j : ℕ). itemsOk rows s 512 (8 * i + j))) (c .before .before .before .loop .k)
+    (search needs) (sym (c .before .items-live .ensures) ∙ not-true _ (c .if1 .taken)))
 
 add-k : tie.Need-add-k Inv-loop μ-loop
 add-k c = search needs
@@ -35,7 +39,11 @@ loop-less : tie.Need-loop-less Inv-loop μ-loop
 loop-less c = search needs
 
 loop-again : tie.Need-loop-again Inv-loop μ-loop
-loop-again c = (search needs, below-step (c .before .before .before .loop .k) _ (c .before .before .before .loop .inv .1) (sym (c .before .items-live .ensures) ∙ not-false _ (c .if1 .left)))
+loop-again c = (
+  search needs,
+  below-step (c .before .before .before .loop .k) _ (c .before .before .before .loop .inv .1)
+      (sym (c .before .items-live .ensures) ∙ not-false _ (c .if1 .left)),
+)
 
 returns-2 : tie.Need-returns-2 Inv-loop μ-loop
 returns-2 c =

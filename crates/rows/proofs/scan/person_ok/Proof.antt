@@ -1,3 +1,4 @@
+-- By the person's mask: of one who lives any row is good (`person-lives`), of a dead one only a row without a right (`person-dead`).
 use native.Mathlib.Omega.{arith}
 use borrow.Author.Needs.{needs}
 use Rattle.rows.proofs.Scans.{person-lives, person-dead}
@@ -10,7 +11,8 @@ element-copy-out-if1 c = search needs
 returns : tie.Need-returns
 returns c =
     let start = c .before .before .before in
-    person-lives (start .args .image .now) (λ i. omega (arith, c .before .before .shared-slice-known .given i)) (start .args .who) (start .pre .0) (start .pre .1) (start .args .masks .now) (start .pre .2) (c .if1 .taken)
+    person-lives (start .args .image .now) (λ i. omega (arith, c .before .before .shared-slice-known .given i)) (start .args .who)
+    (start .pre .0) (start .pre .1) (start .args .masks .now) (start .pre .2) (c .if1 .taken)
 
 mul-at : tie.Need-mul-at
 mul-at c = search needs
@@ -36,7 +38,9 @@ has-right-requires c κs = search needs
 returns-2 : tie.Need-returns-2
 returns-2 c =
     let start = c .before .before .before .before .before in
-    person-dead (start .args .image .now) (λ i. omega (arith, c .before .before .before .before .shared-slice-known .given i)) (start .args .who) (start .pre .0) (start .pre .1) (start .args .masks .now) (start .pre .2) _ (c .before .before .if1 .left) (c .has-right .ensures)
+    person-dead (start .args .image .now) (λ i. omega (arith, c .before .before .before .before .shared-slice-known .given i))
+    (start .args .who) (start .pre .0) (start .pre .1) (start .args .masks .now) (start .pre .2) _ (c .before .before .if1 .left)
+    (c .has-right .ensures)
 
 pub person-ok-spec : {M : Type 1} → statement M
 person-ok-spec =

@@ -1,3 +1,5 @@
+-- The persons passed so far live or have no right (`below-step`); the first of whom that is not so ends the loop with no
+-- (`below-stop`). At the end that is all 64.
 use mathlib.Core.Bool.{true}
 use mathlib.Core.Path.{_≡_, sym, _∙_}
 use Prim.Native.Nat.{_-_, _≤_}
@@ -24,7 +26,9 @@ person-ok-requires : tie.Need-person-ok-requires Inv-loop μ-loop
 person-ok-requires c κs = search needs
 
 returns : tie.Need-returns Inv-loop μ-loop
-returns c = sym (below-stop 64 (personsOk rows (c .before .before .before .before .before .args .image .now) 512) (c .before .before .before .loop .who) (search needs) (sym (c .before .person-ok .ensures) ∙ not-true _ (c .if1 .taken)))
+returns c =
+    sym (below-stop 64 (personsOk rows (c .before .before .before .before .before .args .image .now) 512)
+    (c .before .before .before .loop .who) (search needs) (sym (c .before .person-ok .ensures) ∙ not-true _ (c .if1 .taken)))
 
 add-who : tie.Need-add-who Inv-loop μ-loop
 add-who c = search needs
@@ -33,7 +37,11 @@ loop-less : tie.Need-loop-less Inv-loop μ-loop
 loop-less c = search needs
 
 loop-again : tie.Need-loop-again Inv-loop μ-loop
-loop-again c = (search needs, below-step (c .before .before .before .loop .who) _ (c .before .before .before .loop .inv .1) (sym (c .before .person-ok .ensures) ∙ not-false _ (c .if1 .left)))
+loop-again c = (
+  search needs,
+  below-step (c .before .before .before .loop .who) _ (c .before .before .before .loop .inv .1)
+      (sym (c .before .person-ok .ensures) ∙ not-false _ (c .if1 .left)),
+)
 
 returns-2 : tie.Need-returns-2 Inv-loop μ-loop
 returns-2 c =

@@ -1,3 +1,4 @@
+-- After n turns the word has, of the first n persons, the bits of those who hold a right (`bits-step`); at the end n is 64.
 use mathlib.Core.Path.{_≡_, refl}
 use Prim.Native.Nat.{_%_, _-_, _≤_}
 use native.Mathlib.Omega.{arith}
@@ -37,8 +38,11 @@ loop-less c = search needs
 
 loop-again : tie.Need-loop-again Inv-loop μ-loop
 loop-again c =
-    let l = c .before .before .before .loop in
-    (search needs, bits-step (l .set) _ (l .who) _ _ (isSubject rows (c .before .before .before .before .before .args .image .now)) (l .inv .1) (let e : l .who % 64 ≡ l .who = omega arith in e) (c .before .holds-any .ensures) (c .with-if .ensures))
+    let l = c .before .before .before .loop in (
+      search needs,
+      bits-step (l .set) _ (l .who) _ _ (isSubject rows (c .before .before .before .before .before .args .image .now))
+          (l .inv .1) (let e : l .who % 64 ≡ l .who = omega arith in e) (c .before .holds-any .ensures) (c .with-if .ensures),
+    )
 
 returns : tie.Need-returns Inv-loop μ-loop
 unfolding subjectsOf

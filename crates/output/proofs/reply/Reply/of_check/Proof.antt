@@ -15,7 +15,8 @@ of-chain-requires-2 : tie.Need-of-chain-requires-2
 of-chain-requires-2 c κs = search needs
 
 returns : tie.Need-returns
-returns c = rw (c .before .before .before .of-check .ensures, c .before .before .of-check2 .ensures, c .before .of-chain .ensures, c .of-chain2 .ensures)
+returns c =
+    rw (c .before .before .before .of-check .ensures, c .before .before .of-check2 .ensures, c .before .of-chain .ensures, c .of-chain2 .ensures)
 
 pub of-check-spec : {M : Type 1} → statement M
 of-check-spec =
