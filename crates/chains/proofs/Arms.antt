@@ -60,6 +60,6 @@ room g t a w q e k = (
 pub stepped : {x y : List ℕ} (s : Images) → x ≡ s .grants → y ≡ s .loans → images x y ≡ s
 stepped s p q = λ j. images (p j) (q j)
 
--- what a pass over a table of the right length leaves
+-- what a pass over a loans image of the right length leaves
 pub kept-loans : (t y z : List ℕ) → length t ≡ loanWords → y ≡ cond (eqb (length t) loanWords) z t → y ≡ z
 kept-loans t y z l e = e ∙ rw (eq-eqb (length t) loanWords l)

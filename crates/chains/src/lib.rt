@@ -1,4 +1,4 @@
-// The chain unit: grants with depths in an image of 32,776 bytes, loans in a table of 1,025 words, the six commands over both, and the
+// The chain unit: grants with depths in an image of 32,776 bytes, loans in an image of 1,025 words, the six commands over both, and the
 // check that follows loans through anyone with depth left.
 use delegation::loan;
 use grants::Grants;
@@ -118,7 +118,7 @@ fn drop_item(grants: &mut [u8], loans: &mut [u32], on: Item)
     loans::retain(loans, Rule::Without(on));
 }
 
-// The loan out of the table.
+// The loan out of the image.
 fn drop_loan(loans: &mut [u32], w: u32)
     requires { ⌜ length (now loans) ≡ loanWords ⌝ }
     ensures { λ _. ⌜ now (loans .exit) ≡ loansKept (λ x. not (eqb w x)) (now (loans .entry)) ⌝ }

@@ -114,7 +114,7 @@ length-sorted (l ∷ ls) h d =
     (word-in l ls a k ∙ not-true (any (sameLoan l) ls) (fst (not (any (sameLoan l) ls)) (distinct ls) d))
     ∙ ap suc (length-sorted ls k (snd (not (any (sameLoan l) ls)) (distinct ls) d))
 
--- ---- a crate above knows the header of a table by these laws: it is read from word 0
+-- ---- a crate above knows the header of a loans image by these laws: it is read from word 0
 pub header-read : (t : List ℕ) → headerIn t ≡ headerOf (getD t 0 0)
 unfolding headerIn
 header-read t = refl
@@ -181,7 +181,7 @@ image-of (n ∷ s) l few z =
     ∙ (let e : length (drop n s) ≡ mostLoans - n = simp length-drop (omega arith) in rw e) in
     rw k (ap (λ (l : List ℕ). n ∷ l) (sym (take-append-drop n s) ∙ rw q))
 
--- a table in order is the image of its loans in use
+-- a loans image in order is that of its loans in use
 pub order-image : (f : ℕ → Bool) (t : List ℕ) → length t ≡ loanWords → loansInOrder f t ≡ true
     → (countOf t ≤ mostLoans) × (rising (used t) ≡ true) × (t ≡ loansImage (headerIn t) (used t))
 unfolding loansInOrder

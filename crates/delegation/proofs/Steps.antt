@@ -25,7 +25,7 @@ use Rattle.delegation.proofs.Loans.{word-names, word-same, sorted, keep
 abbrev pub grantsOf : Journal → List ℕ
 grantsOf j = imageOf grantBytes j
 
--- what the table's header says of a journal beside the number of its loans
+-- what the header of the loans says of a journal beside the number of its loans
 abbrev pub headerFor : Journal → Header
 headerFor j = freshHeader
 

@@ -1,4 +1,4 @@
-// The one codec of a loan word, lender * 2^18 + on * 2^12 + right * 2^9 + borrower * 2^3 + depth, and of word 0 of a table of loans.
+// The one codec of a loan word, lender * 2^18 + on * 2^12 + right * 2^9 + borrower * 2^3 + depth, and of word 0 of a loans image.
 // Each field is cut to its width: none depends on the bits above it.
 use model::Depth;
 use model::DepthRead;
@@ -11,13 +11,13 @@ ghost use Prim.Native.Nat.{_%_};
 ghost use Rattle.model.specs.Journal.{loan};
 ghost use Rattle.delegation.specs.Loans.{wordOf, cut, lender, loanItem, loanRight, borrower, loanDepth, keyOf, keyFor, headerOf, headerWord, recounted, freshHeader};
 
-// Word 0 of a table: how many loans stand.
+// Word 0 of a loans image: how many loans stand.
 pub struct Header {
     pub count: u32,
 }
 
 impl Header {
-    // Of a table with no loan.
+    // Of an image with no loan.
     pub fn fresh() -> Header
         ensures { λ r. ⌜ r ≡ freshHeader ⌝ }
     {
@@ -36,7 +36,7 @@ impl Header {
         self.count
     }
 
-    // The header of the same table with n loans.
+    // The header of the same image with n loans.
     pub fn recounted(self, n: u32) -> Header
         ensures { λ r. ⌜ r ≡ recounted self n ⌝ }
     {

@@ -1,4 +1,4 @@
--- Laws of the loops over a part of the table.
+-- Laws of the loops over a part of the loans image.
 use mathlib.Core.Path.{_≡_, refl, sym, ap, _∙_}
 use mathlib.Core.Bool.{Bool, true, false, _&&_, _||_, cond, false≢true}
 use mathlib.Core.List.{List, [], _∷_, _++_, append-nil, append-assoc}

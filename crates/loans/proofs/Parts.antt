@@ -1,4 +1,4 @@
--- Laws of a table and its parts: the loans in use, and the words after them.
+-- Laws of a loans image and its parts: the loans in use, and the words after them.
 use mathlib.Core.Path.{_≡_, refl, sym, ap, _∙_}
 use mathlib.Core.Bool.{Bool, true, false, not, _&&_, and-assoc, and-true}
 use mathlib.Core.List.{List, [], _∷_, _++_, append-nil}
@@ -50,7 +50,7 @@ cut-off h (x ∷ s) last m v n l e q =
     rw (q, a, add-one m, k, drop-length (drop m s), z)
     (ap (λ (r : List ℕ). headerWord (recounted h m) ∷ (take m s ++ r)) (append-nil (replicate (mostLoans - m) 0)))
 
--- the words that stay, in the table from whose part they were taken
+-- the words that stay, in the image from whose part they were taken
 pub packed-part : (t part : List ℕ) (k m : ℕ) → 0 < length t → m ≤ length part → take m (drop 1 (putMid 1 k t part)) ≡ take m part
 packed-part [] part k m h l = absurd (omega arith)
 packed-part (n ∷ s) part k m h l = take-append-le m part (drop k s) l

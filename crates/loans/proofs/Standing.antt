@@ -1,4 +1,4 @@
--- What the unit above needs to use the table: what its test of order gives, and what the contracts' definitions come to there.
+-- What the unit above needs to use the loans image: what its test of order gives, and what the contracts' definitions come to there.
 use mathlib.Core.Path.{_≡_, refl, ap, _∙_}
 use mathlib.Core.Bool.{Bool, true, false, _&&_, cond}
 use mathlib.Core.List.{List}

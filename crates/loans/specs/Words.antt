@@ -1,4 +1,4 @@
--- What the contracts of the loan table cite, beside the loans of the model.
+-- What the contracts of the loans image cite, beside the loans of the model.
 use mathlib.Core.Path.{_≡_}
 use mathlib.Core.Bool.{Bool, true, not, _&&_, cond}
 use mathlib.Core.List.{List}
@@ -27,11 +27,11 @@ abbrev pub keepsOf : Rule → ℕ → Bool
 keepsOf (Other word) w = not (eqb word w)
 keepsOf (Without item) w = not (wordNames (item .0) w)
 
--- how many loans a pass by the rule ends; none where the slice is no table by its length
+-- how many loans a pass by the rule ends; none where the slice is no loans image by its length
 abbrev pub endedBy : Rule → List ℕ → ℕ
 endedBy rule t = cond (eqb (length t) loanWords) (length (used t) - length (keep (keepsOf rule) (used t))) 0
 
--- a table that is in order, whatever items it names
+-- a loans image that is in order, whatever items it names
 pub record Ordered (t : List ℕ) : Type 0 where
   pub long : length t ≡ loanWords
   pub rises : rising (used t) ≡ true

@@ -1,4 +1,4 @@
-// Whether a loan table is in order. Each loop ORs flags that are 0 where a word passes, and the sum is tested once.
+// Whether a loans image is in order. Each loop ORs flags that are 0 where a word passes, and the sum is tested once.
 use crate::Loans;
 use delegation::loan;
 ghost use mathlib.Core.Path.{_≡_};
@@ -89,7 +89,7 @@ fn are_zero(s: &[u32]) -> bool
     bad == 0
 }
 
-// Whether the slice is a table in order, by a mask of the living items: 0 where one lives, 255 where not.
+// Whether the slice is an image in order, by a mask of the living items: 0 where one lives, 255 where not.
 pub fn in_order(loans: &[u32], masks: &[u8; 64]) -> bool
     ensures { λ r. ⌜ r
         ≡ eqb (length (now (loans .entry))) loanWords && loansInOrder (unmasked (now (masks .entry))) (now (loans .entry)) ⌝ }

@@ -25,7 +25,7 @@ ghost use Rattle.search.specs.Entry.{entryFound};
 ghost use Rattle.search.specs.Picked.{Picked};
 ghost use Rattle.search.specs.Settled.{Settled};
 
-// How many loans a table holds.
+// How many loans an image holds.
 const MANY: usize = 1024;
 
 // How many have room in a small buffer, which is sooner made.

@@ -1,5 +1,5 @@
 -- In each arm both images are as the verb, which the match has told, leaves them (`arm`). A loan that the table let through finds the
--- table of loans in order, and room in it, since row 10 does not hold (`room`).
+-- loans image in order, and room in it, since row 10 does not hold (`room`).
 use borrow.Author.Needs.{needs}
 use mathlib.Core.Path.{ap, _∙_}
 use mathlib.Core.Bool.{not}

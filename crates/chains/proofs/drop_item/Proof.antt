@@ -1,4 +1,4 @@
--- The item is out of both images, each by its own step (`stepped`); the table of loans has the right length, so the pass over it was
+-- The item is out of both images, each by its own step (`stepped`); the loans image has the right length, so the pass over it was
 -- made (`kept-loans`).
 use borrow.Author.Needs.{needs}
 use Rattle.delegation.specs.Images.{images}
