@@ -131,7 +131,7 @@ pub extern "C" fn rights_chains_check(
 }
 
 #[no_mangle]
-pub extern "C" fn rights_chains_in_order(grants: &[u8], loans: &[u32]) -> u32
+pub extern "C" fn rights_chains_inspect(grants: &[u8], loans: &[u32]) -> u32
     ensures { λ r. ⌜ ChainInspects (images (now (grants .entry)) (now (loans .entry))) r
         (images (now (grants .exit)) (now (loans .exit))) ⌝ }
 {

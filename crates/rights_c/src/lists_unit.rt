@@ -83,7 +83,7 @@ pub extern "C" fn rights_lists_subjects(image: &[u64], persons: &mut u64) -> u32
 }
 
 #[no_mangle]
-pub extern "C" fn rights_lists_in_order(image: &[u64]) -> u32
+pub extern "C" fn rights_lists_inspect(image: &[u64]) -> u32
     ensures { λ r. ⌜ Inspects lists (now (image .entry)) r (now (image .exit)) ⌝ }
 {
     let a = lists::inspect(image);

@@ -83,7 +83,7 @@ pub extern "C" fn rights_rows_subjects(image: &[u8], persons: &mut u64) -> u32
 }
 
 #[no_mangle]
-pub extern "C" fn rights_rows_in_order(image: &[u8]) -> u32
+pub extern "C" fn rights_rows_inspect(image: &[u8]) -> u32
     ensures { λ r. ⌜ Inspects rows (now (image .entry)) r (now (image .exit)) ⌝ }
 {
     let a = rows::inspect(image);

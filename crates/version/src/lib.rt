@@ -1,19 +1,19 @@
 // Which engine this is: the version of its functions, and the date of the images' layout. A change of layout changes the date.
 ghost use mathlib.Core.Path.{_≡_};
 
-// The version, by the three numbers of semantic versioning.
+// The version, by three numbers. What callers see may change with the minor one.
 pub struct Version {}
 
 impl Version {
     pub const MAJOR: u32 = 1;
 
-    pub const MINOR: u32 = 0;
+    pub const MINOR: u32 = 1;
 
     pub const PATCH: u32 = 0;
 
     // As one number, two digits each for minor and patch.
     pub fn number() -> u32
-        ensures { λ r. ⌜ r ≡ 10000 ⌝ }
+        ensures { λ r. ⌜ r ≡ 10100 ⌝ }
     {
         10000 * Version::MAJOR + 100 * Version::MINOR + Version::PATCH
     }

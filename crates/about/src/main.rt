@@ -1,4 +1,4 @@
-// Writes the version and the date of the layout.
+// Writes the version and the date of the layout, in the words of docs/SHEET.md.
 use version::Layout;
 use version::Version;
 
@@ -22,13 +22,13 @@ fn two_digits(n: u32) {
 }
 
 fn main() {
-    text(b"version=");
+    text(b"Engine version: ");
     number(Version::MAJOR);
     text(b".");
     number(Version::MINOR);
     text(b".");
     number(Version::PATCH);
-    text(b"\nlayout=");
+    text(b"\nTable layout of: ");
     number(Layout::YEAR);
     two_digits(Layout::MONTH);
     two_digits(Layout::DAY);
