@@ -3,13 +3,35 @@
  *
  * The caller lends every buffer; nothing is allocated and nothing is kept between calls. A buffer is a pointer and its length in
  * elements, side by side. No pointer is null, also where the length is 0; a buffer is aligned for its elements; the buffers and
- * results of one call do not overlap, and nobody else writes them during the call. Calls on different buffers may run at the same
- * time.
+ * results of one call do not overlap.
  *
- * Every function that takes a buffer returns a number of the table below, the lowest that applies. Beside any number but
- * RIGHTS_DONE every lent buffer is as it was, and every other result is 0.
+ * Every function that takes a buffer returns a number of the table below, the lowest that applies; 0, RIGHTS_DONE, is no error.
+ * Beside any other number every lent buffer is as it was, and every other result is 0.
  *
- * Sizes and numbers are stated here once for every language that calls the engine: each is one line, `#define NAME NUMBER`.
+ * What the library rests on:
+ *
+ * - Machine: x86-64 with SSE2, the System V calling convention, ELF. There is no library for another machine yet.
+ * - Other code: memset, and nothing else. No heap, no thread, no operating system, no state of its own.
+ * - Stack: RIGHTS_STACK_BYTES is enough below the caller's frame for any call (5,168 bytes were measured, for a chain check).
+ * - Threads: checks, subjects, inspections and conversions from one image may run side by side. A call that writes an image needs it
+ *   alone: no other call on that image meanwhile. Calls on different buffers never meet.
+ * - Interrupts and loss of power: no call is atomic. What is stored must change as a whole: run the command on a copy, and where it
+ *   returned RIGHTS_DONE put the copy in the place of the image.
+ *
+ * Where an image is stored or sent:
+ *
+ * - Byte order: least byte first, which is how this machine holds words.
+ * - Layout: keep RIGHTS_LAYOUT_DATE beside every stored image, and read no image with another date.
+ * - Integrity: 'in order' is no checksum. Of the single-bit changes to the images of one state 4,270 left them in order, each then
+ *   with other grants or loans. Keep a checksum beside every stored image, and compare it before rights_*_inspect.
+ *
+ * At start-up compare the header with the library, so that neither is of another engine:
+ *
+ *     if (rights_version() != RIGHTS_VERSION || rights_layout_date() != RIGHTS_LAYOUT_DATE)
+ *         use nothing of it
+ *
+ * Sizes, numbers and prototypes are stated here once for every language that calls the engine: a size or number is one line,
+ * `#define NAME NUMBER`, and a prototype begins with RIGHTS_NODISCARD.
  */
 #ifndef RIGHTS_H
 #define RIGHTS_H
@@ -17,9 +39,36 @@
 #include <stddef.h>
 #include <stdint.h>
 
+/* A result that must not be dropped. */
+#ifndef RIGHTS_NODISCARD
+#if (defined(__cplusplus) && __cplusplus >= 201703L) || (defined(__STDC_VERSION__) && __STDC_VERSION__ >= 202311L)
+#define RIGHTS_NODISCARD [[nodiscard]]
+#elif defined(__GNUC__)
+#define RIGHTS_NODISCARD __attribute__((warn_unused_result))
+#else
+#define RIGHTS_NODISCARD
+#endif
+#endif
+
+/* No pointer of the call is null. */
+#ifndef RIGHTS_NONNULL
+#if defined(__GNUC__)
+#define RIGHTS_NONNULL __attribute__((nonnull))
+#else
+#define RIGHTS_NONNULL
+#endif
+#endif
+
 #ifdef __cplusplus
 extern "C" {
 #endif
+
+/* Which engine this header is of: 10000 * major + 100 * minor + patch, and the date of the images' layout as digits. */
+#define RIGHTS_VERSION 10100
+#define RIGHTS_LAYOUT_DATE 20261115
+
+/* The stack that a call may use below its caller's frame. */
+#define RIGHTS_STACK_BYTES 8192
 
 /* Limits. An item is a person or a thing, 0 to RIGHTS_ITEM_MAX; item 0 is the root item. Right 0 is the right to edit grants. */
 #define RIGHTS_ITEM_MAX 63
@@ -39,9 +88,8 @@ extern "C" {
  * Loans of a chain unit: word 0 is the count; then the loans, rising; every later word is 0. A loan is
  * lender * 2^18 + on * 2^12 + right * 2^9 + borrower * 2^3 + depth.
  *
- * Words are in the byte order of the machine. An image is in order when item 0 lives, it names no dead item (for loans, by the live
- * set of the grants), the count is at most RIGHTS_LOANS_MAX, the loans in use rise strictly, are below 2^24 and carry no right 0,
- * and the rest is 0.
+ * An image is in order when item 0 lives, it names no dead item (for loans, by the live set of the grants), the count is at most
+ * RIGHTS_LOANS_MAX, the loans in use rise strictly, are below 2^24 and carry no right 0, and the rest is 0.
  */
 #define RIGHTS_LISTS_WORDS 513
 #define RIGHTS_ROWS_BYTES 4104
@@ -52,118 +100,134 @@ extern "C" {
 #define RIGHTS_CHAIN_PERSONS 8
 #define RIGHTS_NO_PERSON 255
 
-/* What a function returns. RIGHTS_MALFORMED is the number of a command line that cannot be read; no function here returns it. */
-/* done */
+/* What a function returns, in words: rights_text. No function here returns RIGHTS_MALFORMED, the number of a command line. */
 #define RIGHTS_DONE 0
-/* a lent buffer has a wrong length */
 #define RIGHTS_WRONG_LENGTH 1
-/* a lent image to be read is not in order */
 #define RIGHTS_NOT_IN_ORDER 2
-/* an item, a right or a depth above its limit */
 #define RIGHTS_OUT_OF_RANGE 3
-/* by does not live */
 #define RIGHTS_BY_DEAD 4
-/* any command but create: on, or to, does not live */
 #define RIGHTS_NAMED_DEAD 5
-/* create: on lives */
 #define RIGHTS_ALREADY_LIVE 6
-/* delete: on is the root item */
 #define RIGHTS_ROOT_ITEM 7
-/* allow, withdraw, delete: by has no edit grant on the item */
 #define RIGHTS_NO_EDIT 8
-/* lend: right 0 */
 #define RIGHTS_EDIT_RIGHT 9
-/* lend: RIGHTS_LOANS_MAX loans stand and this is not one of them */
 #define RIGHTS_FULL 10
-/* a command line is malformed */
 #define RIGHTS_MALFORMED 11
+
+/* A short text for a number; never null. */
+static inline const char *rights_text(uint32_t number)
+{
+    switch (number) {
+    case RIGHTS_DONE: return "done";
+    case RIGHTS_WRONG_LENGTH: return "a lent buffer has a wrong length";
+    case RIGHTS_NOT_IN_ORDER: return "a lent image to be read is not in order";
+    case RIGHTS_OUT_OF_RANGE: return "an item, a right or a depth is above its limit";
+    case RIGHTS_BY_DEAD: return "by does not live";
+    case RIGHTS_NAMED_DEAD: return "on, or to, does not live";
+    case RIGHTS_ALREADY_LIVE: return "create: on lives";
+    case RIGHTS_ROOT_ITEM: return "delete: on is the root item";
+    case RIGHTS_NO_EDIT: return "by has no edit grant on the item";
+    case RIGHTS_EDIT_RIGHT: return "lend: right 0 is not lent";
+    case RIGHTS_FULL: return "lend: 1,024 loans stand and this is not one of them";
+    case RIGHTS_MALFORMED: return "a command line is malformed";
+    default: return "no number of this engine";
+    }
+}
 
 /* ---- Lists: access control lists. `words` is RIGHTS_LISTS_WORDS. */
 
 /* Makes a fresh unit, whatever the buffer held: item 0 lives and has an edit grant on itself. 0 or 1. */
-uint32_t rights_lists_fresh(uint64_t *image, size_t words);
+RIGHTS_NODISCARD uint32_t rights_lists_fresh(uint64_t *image, size_t words) RIGHTS_NONNULL;
 
 /* Item on lives, and by has an edit grant on it. 0 to 4 or 6. */
-uint32_t rights_lists_create(uint64_t *image, size_t words, uint32_t by, uint32_t on);
+RIGHTS_NODISCARD uint32_t rights_lists_create(uint64_t *image, size_t words, uint32_t by, uint32_t on) RIGHTS_NONNULL;
 
 /* Item on is dead, and every grant that names it ends. 0 to 5, 7 or 8. */
-uint32_t rights_lists_delete(uint64_t *image, size_t words, uint32_t by, uint32_t on);
+RIGHTS_NODISCARD uint32_t rights_lists_delete(uint64_t *image, size_t words, uint32_t by, uint32_t on) RIGHTS_NONNULL;
 
 /* Grants to the right on item on. Lists have no depth: it is checked, then dropped. 0 to 5 or 8. */
-uint32_t rights_lists_allow(uint64_t *image, size_t words, uint32_t by, uint32_t to, uint32_t on, uint32_t right, uint32_t depth);
+RIGHTS_NODISCARD uint32_t rights_lists_allow(uint64_t *image, size_t words, uint32_t by, uint32_t to, uint32_t on, uint32_t right,
+    uint32_t depth) RIGHTS_NONNULL;
 
 /* Ends the grant of to. 0 to 5 or 8. */
-uint32_t rights_lists_withdraw(uint64_t *image, size_t words, uint32_t by, uint32_t to, uint32_t on, uint32_t right);
+RIGHTS_NODISCARD uint32_t rights_lists_withdraw(uint64_t *image, size_t words, uint32_t by, uint32_t to, uint32_t on,
+    uint32_t right) RIGHTS_NONNULL;
 
 /* Sets *yes to 1 where who has the right on item on, else to 0. 0 to 3. */
-uint32_t rights_lists_check(const uint64_t *image, size_t words, uint32_t who, uint32_t on, uint32_t right, uint32_t *yes);
+RIGHTS_NODISCARD uint32_t rights_lists_check(const uint64_t *image, size_t words, uint32_t who, uint32_t on, uint32_t right,
+    uint32_t *yes) RIGHTS_NONNULL;
 
 /* Sets bit i of *persons for each person i with at least one grant. 0 to 2. */
-uint32_t rights_lists_subjects(const uint64_t *image, size_t words, uint64_t *persons);
+RIGHTS_NODISCARD uint32_t rights_lists_subjects(const uint64_t *image, size_t words, uint64_t *persons) RIGHTS_NONNULL;
 
-/* Judges the image alone. 0 to 2. */
-uint32_t rights_lists_in_order(const uint64_t *image, size_t words);
+/* Judges the image alone: RIGHTS_DONE where it is in order. 0 to 2. */
+RIGHTS_NODISCARD uint32_t rights_lists_inspect(const uint64_t *image, size_t words) RIGHTS_NONNULL;
 
 /* ---- Rows: capability rows. `bytes` is RIGHTS_ROWS_BYTES. Each function does what its namesake does for lists. */
 
 /* Makes a fresh unit. */
-uint32_t rights_rows_fresh(uint8_t *image, size_t bytes);
+RIGHTS_NODISCARD uint32_t rights_rows_fresh(uint8_t *image, size_t bytes) RIGHTS_NONNULL;
 
 /* Item on lives, and by has an edit grant on it. */
-uint32_t rights_rows_create(uint8_t *image, size_t bytes, uint32_t by, uint32_t on);
+RIGHTS_NODISCARD uint32_t rights_rows_create(uint8_t *image, size_t bytes, uint32_t by, uint32_t on) RIGHTS_NONNULL;
 
 /* Item on is dead, and every grant that names it ends. */
-uint32_t rights_rows_delete(uint8_t *image, size_t bytes, uint32_t by, uint32_t on);
+RIGHTS_NODISCARD uint32_t rights_rows_delete(uint8_t *image, size_t bytes, uint32_t by, uint32_t on) RIGHTS_NONNULL;
 
 /* Grants to the right on item on; the depth is checked, then dropped. */
-uint32_t rights_rows_allow(uint8_t *image, size_t bytes, uint32_t by, uint32_t to, uint32_t on, uint32_t right, uint32_t depth);
+RIGHTS_NODISCARD uint32_t rights_rows_allow(uint8_t *image, size_t bytes, uint32_t by, uint32_t to, uint32_t on, uint32_t right,
+    uint32_t depth) RIGHTS_NONNULL;
 
 /* Ends the grant of to. */
-uint32_t rights_rows_withdraw(uint8_t *image, size_t bytes, uint32_t by, uint32_t to, uint32_t on, uint32_t right);
+RIGHTS_NODISCARD uint32_t rights_rows_withdraw(uint8_t *image, size_t bytes, uint32_t by, uint32_t to, uint32_t on,
+    uint32_t right) RIGHTS_NONNULL;
 
 /* Sets *yes to 1 or 0. */
-uint32_t rights_rows_check(const uint8_t *image, size_t bytes, uint32_t who, uint32_t on, uint32_t right, uint32_t *yes);
+RIGHTS_NODISCARD uint32_t rights_rows_check(const uint8_t *image, size_t bytes, uint32_t who, uint32_t on, uint32_t right,
+    uint32_t *yes) RIGHTS_NONNULL;
 
 /* Sets bit i of *persons for each person i with at least one grant. */
-uint32_t rights_rows_subjects(const uint8_t *image, size_t bytes, uint64_t *persons);
+RIGHTS_NODISCARD uint32_t rights_rows_subjects(const uint8_t *image, size_t bytes, uint64_t *persons) RIGHTS_NONNULL;
 
-/* Judges the image alone. */
-uint32_t rights_rows_in_order(const uint8_t *image, size_t bytes);
+/* Judges the image alone: RIGHTS_DONE where it is in order. */
+RIGHTS_NODISCARD uint32_t rights_rows_inspect(const uint8_t *image, size_t bytes) RIGHTS_NONNULL;
 
 /* ---- Lists into rows and back. Only the image that is read is judged; the other is written whole. 0 to 2. */
 
 /* Writes the rows that have the live set and the grants of the lists. */
-uint32_t rights_lists_to_rows(const uint64_t *lists, size_t words, uint8_t *rows, size_t bytes);
+RIGHTS_NODISCARD uint32_t rights_lists_to_rows(const uint64_t *source, size_t words, uint8_t *target, size_t bytes) RIGHTS_NONNULL;
 
 /* Writes the lists that have the live set and the grants of the rows. */
-uint32_t rights_rows_to_lists(const uint8_t *rows, size_t bytes, uint64_t *lists, size_t words);
+RIGHTS_NODISCARD uint32_t rights_rows_to_lists(const uint8_t *source, size_t bytes, uint64_t *target, size_t words) RIGHTS_NONNULL;
 
 /* ---- A chain unit: grants with depths, and loans. `bytes` is RIGHTS_GRANTS_BYTES, `words` is RIGHTS_LOANS_WORDS. */
 
 /* Makes a fresh unit, whatever the buffers held: the grants of a fresh unit, and no loan. 0 or 1. */
-uint32_t rights_chains_fresh(uint8_t *grants, size_t bytes, uint32_t *loans, size_t words);
+RIGHTS_NODISCARD uint32_t rights_chains_fresh(uint8_t *grants, size_t bytes, uint32_t *loans, size_t words) RIGHTS_NONNULL;
 
 /* Item on lives, and by has an edit grant of depth 0 on it. 0 to 4 or 6. */
-uint32_t rights_chains_create(uint8_t *grants, size_t bytes, uint32_t *loans, size_t words, uint32_t by, uint32_t on);
+RIGHTS_NODISCARD uint32_t rights_chains_create(uint8_t *grants, size_t bytes, uint32_t *loans, size_t words, uint32_t by,
+    uint32_t on) RIGHTS_NONNULL;
 
 /* Item on is dead, and every grant and loan that names it ends. 0 to 5, 7 or 8. */
-uint32_t rights_chains_delete(uint8_t *grants, size_t bytes, uint32_t *loans, size_t words, uint32_t by, uint32_t on);
+RIGHTS_NODISCARD uint32_t rights_chains_delete(uint8_t *grants, size_t bytes, uint32_t *loans, size_t words, uint32_t by,
+    uint32_t on) RIGHTS_NONNULL;
 
 /* Grants to the right on item on at that depth, beside the depths that stand. 0 to 5 or 8. */
-uint32_t rights_chains_allow(uint8_t *grants, size_t bytes, uint32_t *loans, size_t words, uint32_t by, uint32_t to, uint32_t on,
-                             uint32_t right, uint32_t depth);
+RIGHTS_NODISCARD uint32_t rights_chains_allow(uint8_t *grants, size_t bytes, uint32_t *loans, size_t words, uint32_t by,
+    uint32_t to, uint32_t on, uint32_t right, uint32_t depth) RIGHTS_NONNULL;
 
 /* Ends the grants of to at every depth; loans stay. 0 to 5 or 8. */
-uint32_t rights_chains_withdraw(uint8_t *grants, size_t bytes, uint32_t *loans, size_t words, uint32_t by, uint32_t to, uint32_t on,
-                                uint32_t right);
+RIGHTS_NODISCARD uint32_t rights_chains_withdraw(uint8_t *grants, size_t bytes, uint32_t *loans, size_t words, uint32_t by,
+    uint32_t to, uint32_t on, uint32_t right) RIGHTS_NONNULL;
 
 /* Lends the right on item on from by to to at that depth, also where by holds nothing yet. 0 to 5, 9 or 10. */
-uint32_t rights_chains_lend(uint8_t *grants, size_t bytes, uint32_t *loans, size_t words, uint32_t by, uint32_t to, uint32_t on,
-                            uint32_t right, uint32_t depth);
+RIGHTS_NODISCARD uint32_t rights_chains_lend(uint8_t *grants, size_t bytes, uint32_t *loans, size_t words, uint32_t by, uint32_t to,
+    uint32_t on, uint32_t right, uint32_t depth) RIGHTS_NONNULL;
 
 /* Ends just that loan of by, if it stands. 0 to 5. */
-uint32_t rights_chains_recall(uint8_t *grants, size_t bytes, uint32_t *loans, size_t words, uint32_t by, uint32_t to, uint32_t on,
-                              uint32_t right, uint32_t depth);
+RIGHTS_NODISCARD uint32_t rights_chains_recall(uint8_t *grants, size_t bytes, uint32_t *loans, size_t words, uint32_t by,
+    uint32_t to, uint32_t on, uint32_t right, uint32_t depth) RIGHTS_NONNULL;
 
 /*
  * Whether a chain of grants and loans leads to who. `persons_max` is RIGHTS_CHAIN_PERSONS. 0 to 3.
@@ -171,19 +235,21 @@ uint32_t rights_chains_recall(uint8_t *grants, size_t bytes, uint32_t *loans, si
  * persons of one that does, the grant's first, RIGHTS_NO_PERSON after the last.
  * No: it returns 0, *depth and *persons are 0, and every byte of chain is RIGHTS_NO_PERSON.
  */
-uint32_t rights_chains_check(const uint8_t *grants, size_t bytes, const uint32_t *loans, size_t words, uint32_t who, uint32_t on,
-                             uint32_t right, uint8_t *chain, size_t persons_max, uint32_t *depth, uint32_t *persons);
+RIGHTS_NODISCARD uint32_t rights_chains_check(const uint8_t *grants, size_t bytes, const uint32_t *loans, size_t words,
+    uint32_t who, uint32_t on, uint32_t right, uint8_t *chain, size_t persons_max, uint32_t *depth,
+    uint32_t *persons) RIGHTS_NONNULL;
 
-/* Judges both images alone. 0 to 2. */
-uint32_t rights_chains_in_order(const uint8_t *grants, size_t bytes, const uint32_t *loans, size_t words);
+/* Judges both images alone: RIGHTS_DONE where they are in order. 0 to 2. */
+RIGHTS_NODISCARD uint32_t rights_chains_inspect(const uint8_t *grants, size_t bytes, const uint32_t *loans,
+    size_t words) RIGHTS_NONNULL;
 
 /* ---- Which engine this is. */
 
 /* 10000 * major + 100 * minor + patch. */
-uint32_t rights_version(void);
+RIGHTS_NODISCARD uint32_t rights_version(void);
 
 /* The date of the images' layout: 10000 * year + 100 * month + day. */
-uint32_t rights_layout_date(void);
+RIGHTS_NODISCARD uint32_t rights_layout_date(void);
 
 #ifdef __cplusplus
 }
