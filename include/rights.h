@@ -12,7 +12,8 @@
  *
  * - Machine: x86-64 with SSE2, the System V calling convention, ELF. There is no library for another machine yet.
  * - Other code: memset, and nothing else. No heap, no thread, no operating system, no state of its own.
- * - Stack: RIGHTS_STACK_BYTES is enough below the caller's frame for any call (5,168 bytes were measured, for a chain check).
+ * - Stack: RIGHTS_STACK_BYTES below the caller's frame, arguments included, is enough for any call. The most that was measured is 5,200
+ *   bytes, by rights_chains_check; no other call used over 400.
  * - Threads: checks, subjects, inspections and conversions from one image may run side by side. A call that writes an image needs it
  *   alone: no other call on that image meanwhile. Calls on different buffers never meet.
  * - Interrupts and loss of power: no call is atomic. What is stored must change as a whole: run the command on a copy, and where it
@@ -67,7 +68,7 @@ extern "C" {
 #define RIGHTS_VERSION 10100
 #define RIGHTS_LAYOUT_DATE 20261115
 
-/* The stack that a call may use below its caller's frame. */
+/* Enough stack below the caller's frame for any call. */
 #define RIGHTS_STACK_BYTES 8192
 
 /* Limits. An item is a person or a thing, 0 to RIGHTS_ITEM_MAX; item 0 is the root item. Right 0 is the right to edit grants. */

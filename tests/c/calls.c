@@ -1,0 +1,333 @@
+/*
+ * Calls every function of rights.h with arguments that all differ, and compares every number, every result and every byte of every
+ * buffer with what the header's layouts say. It is C99 and C++. The status is 0 where nothing differs; else each difference is told.
+ */
+#include <stdio.h>
+#include <string.h>
+
+#include "rights.h"
+
+/* No two numbers of a call are the same: by, to, on, right, depth. A call with any two exchanged is refused or changes another place. */
+enum { ROOT = 0, OWNER = 5, HOLDER = 11, BORROWER = 47, DRAWER = 23, DEAD = 60 };
+enum { RIGHT = 3, DEPTH = 6, LOAN_DEPTH = 2 };
+enum { LISTS_SIZE = 8 * RIGHTS_LISTS_WORDS, LOANS_SIZE = 4 * RIGHTS_LOANS_WORDS };
+
+/* What the engine is lent, and beside it what that must hold. */
+static uint64_t lists[RIGHTS_LISTS_WORDS], lists_due[RIGHTS_LISTS_WORDS];
+static uint8_t rows[RIGHTS_ROWS_BYTES], rows_due[RIGHTS_ROWS_BYTES];
+static uint8_t grants[RIGHTS_GRANTS_BYTES], grants_due[RIGHTS_GRANTS_BYTES];
+static uint32_t loans[RIGHTS_LOANS_WORDS], loans_due[RIGHTS_LOANS_WORDS];
+
+static unsigned compared, differences;
+
+static void same(const char *call, const char *what, uint64_t given, uint64_t due)
+{
+    compared++;
+    if (given != due) {
+        differences++;
+        printf("%s: %s is %llu, not %llu\n", call, what, (unsigned long long)given, (unsigned long long)due);
+    }
+}
+
+static void same_bytes(const char *call, const char *what, const void *given, const void *due, size_t size)
+{
+    compared++;
+    if (memcmp(given, due, size) != 0) {
+        differences++;
+        printf("%s: %s differs\n", call, what);
+    }
+}
+
+/* The number that a call returned, and every byte of the images after it. */
+static void returned(const char *call, uint32_t number, uint32_t due)
+{
+    same(call, "the number", number, due);
+    same_bytes(call, "the lists image", lists, lists_due, LISTS_SIZE);
+    same_bytes(call, "the rows image", rows, rows_due, RIGHTS_ROWS_BYTES);
+    same_bytes(call, "the grants image", grants, grants_due, RIGHTS_GRANTS_BYTES);
+    same_bytes(call, "the loans image", loans, loans_due, LOANS_SIZE);
+}
+
+/* ---- what a buffer must hold, by the header's layouts: an item lives or not, a grant stands or not */
+
+static void byte_bit(uint8_t *image, size_t place, unsigned bit, int stands)
+{
+    image[place] = (uint8_t)(stands ? image[place] | 1u << bit : image[place] & ~(1u << bit));
+}
+
+static void word_bit(uint64_t *image, size_t place, unsigned bit, int stands)
+{
+    image[place] = stands ? image[place] | (uint64_t)1 << bit : image[place] & ~((uint64_t)1 << bit);
+}
+
+static void lists_item(unsigned item, int lives) { word_bit(lists_due, 0, item, lives); }
+static void rows_item(unsigned item, int lives) { byte_bit(rows_due, item / 8, item % 8, lives); }
+static void grants_item(unsigned item, int lives) { byte_bit(grants_due, item / 8, item % 8, lives); }
+
+static void lists_grant(unsigned person, unsigned on, unsigned right, int stands)
+{
+    word_bit(lists_due, 1 + 8 * on + right, person, stands);
+}
+
+static void rows_grant(unsigned person, unsigned on, unsigned right, int stands)
+{
+    byte_bit(rows_due, 8 + 64 * person + on, right, stands);
+}
+
+static void grants_grant(unsigned person, unsigned on, unsigned right, unsigned depth, int stands)
+{
+    byte_bit(grants_due, 8 + 512 * on + 64 * right + person, depth, stands);
+}
+
+static uint32_t loan(uint32_t lender, uint32_t on, uint32_t right, uint32_t borrower, uint32_t depth)
+{
+    return lender * 262144 + on * 4096 + right * 512 + borrower * 8 + depth;
+}
+
+/* ---- lists and rows: the same calls, each unit with its buffer L, its length N and what it must hold */
+
+#define FLAT(unit, L, N) \
+    static void unit##_grants(void) \
+    { \
+        memset(L, 0xa5, sizeof L); \
+        unit##_item(ROOT, 1); \
+        unit##_grant(ROOT, ROOT, 0, 1); \
+        returned(#unit " fresh", rights_##unit##_fresh(L, N), 0); \
+        unit##_item(OWNER, 1); \
+        unit##_grant(ROOT, OWNER, 0, 1); \
+        returned(#unit " create", rights_##unit##_create(L, N, ROOT, OWNER), 0); \
+        unit##_item(HOLDER, 1); \
+        unit##_grant(ROOT, HOLDER, 0, 1); \
+        returned(#unit " create", rights_##unit##_create(L, N, ROOT, HOLDER), 0); \
+        unit##_item(DRAWER, 1); \
+        unit##_grant(OWNER, DRAWER, 0, 1); \
+        returned(#unit " create", rights_##unit##_create(L, N, OWNER, DRAWER), 0); \
+        unit##_grant(HOLDER, DRAWER, RIGHT, 1); \
+        returned(#unit " allow", rights_##unit##_allow(L, N, OWNER, HOLDER, DRAWER, RIGHT, DEPTH), 0); \
+    } \
+    static void unit##_answers(void) \
+    { \
+        uint32_t yes = 77; \
+        uint64_t persons = 77; \
+        returned(#unit " check", rights_##unit##_check(L, N, HOLDER, DRAWER, RIGHT, &yes), 0); \
+        same(#unit " check", "yes", yes, 1); \
+        yes = 77; \
+        returned(#unit " check", rights_##unit##_check(L, N, OWNER, DRAWER, RIGHT, &yes), 0); \
+        same(#unit " check, no", "yes", yes, 0); \
+        yes = 77; \
+        returned(#unit " check", rights_##unit##_check(L, N, HOLDER, DRAWER, 8, &yes), 3); \
+        same(#unit " check, refused", "yes", yes, 0); \
+        returned(#unit " subjects", rights_##unit##_subjects(L, N, &persons), 0); \
+        same(#unit " subjects", "persons", persons, 1u << ROOT | 1u << OWNER | 1u << HOLDER); \
+        returned(#unit " inspect", rights_##unit##_inspect(L, N), 0); \
+        L[0] = L##_due[0] = 0; \
+        returned(#unit " inspect, no item lives", rights_##unit##_inspect(L, N), 2); \
+        L[0] = L##_due[0] = unit##_live; \
+    } \
+    static void unit##_endings(void) \
+    { \
+        returned(#unit " allow, depth 8", rights_##unit##_allow(L, N, OWNER, HOLDER, DRAWER, RIGHT, 8), 3); \
+        returned(#unit " allow by another", rights_##unit##_allow(L, N, HOLDER, OWNER, DRAWER, RIGHT, DEPTH), 8); \
+        unit##_grant(HOLDER, DRAWER, RIGHT, 0); \
+        returned(#unit " withdraw", rights_##unit##_withdraw(L, N, OWNER, HOLDER, DRAWER, RIGHT), 0); \
+        unit##_grant(OWNER, DRAWER, 0, 0); \
+        unit##_item(DRAWER, 0); \
+        returned(#unit " delete", rights_##unit##_delete(L, N, OWNER, DRAWER), 0); \
+    } \
+    static void unit##_lengths(void) \
+    { \
+        uint32_t yes = 77; \
+        uint64_t persons = 77; \
+        returned(#unit " fresh, length", rights_##unit##_fresh(L, N - 1), 1); \
+        returned(#unit " create, length", rights_##unit##_create(L, N - 1, ROOT, DEAD), 1); \
+        returned(#unit " delete, length", rights_##unit##_delete(L, N - 1, ROOT, OWNER), 1); \
+        returned(#unit " allow, length", rights_##unit##_allow(L, N - 1, ROOT, HOLDER, OWNER, RIGHT, DEPTH), 1); \
+        returned(#unit " withdraw, length", rights_##unit##_withdraw(L, N - 1, OWNER, HOLDER, DRAWER, RIGHT), 1); \
+        returned(#unit " check, length", rights_##unit##_check(L, N - 1, HOLDER, DRAWER, RIGHT, &yes), 1); \
+        returned(#unit " subjects, length", rights_##unit##_subjects(L, N - 1, &persons), 1); \
+        returned(#unit " inspect, length", rights_##unit##_inspect(L, N - 1), 1); \
+        same(#unit " check, length", "yes", yes, 0); \
+        same(#unit " subjects, length", "persons", persons, 0); \
+    }
+
+static const uint64_t lists_live = 1u << ROOT | 1u << OWNER | 1u << HOLDER | 1u << DRAWER;
+static const uint8_t rows_live = 1u << ROOT | 1u << OWNER;
+
+FLAT(lists, lists, RIGHTS_LISTS_WORDS)
+FLAT(rows, rows, RIGHTS_ROWS_BYTES)
+
+static void conversions(void)
+{
+    memset(rows, 0x5a, sizeof rows);
+    returned("lists to rows", rights_lists_to_rows(lists, RIGHTS_LISTS_WORDS, rows, RIGHTS_ROWS_BYTES), 0);
+    memset(lists, 0x5a, sizeof lists);
+    returned("rows to lists", rights_rows_to_lists(rows, RIGHTS_ROWS_BYTES, lists, RIGHTS_LISTS_WORDS), 0);
+    returned("lists to rows, length", rights_lists_to_rows(lists, RIGHTS_LISTS_WORDS, rows, RIGHTS_ROWS_BYTES - 1), 1);
+    returned("lists to rows, length", rights_lists_to_rows(lists, RIGHTS_LISTS_WORDS - 1, rows, RIGHTS_ROWS_BYTES), 1);
+    returned("rows to lists, length", rights_rows_to_lists(rows, RIGHTS_ROWS_BYTES, lists, RIGHTS_LISTS_WORDS - 1), 1);
+    returned("rows to lists, length", rights_rows_to_lists(rows, RIGHTS_ROWS_BYTES - 1, lists, RIGHTS_LISTS_WORDS), 1);
+}
+
+/* ---- the chain unit */
+
+#define UNIT grants, RIGHTS_GRANTS_BYTES, loans, RIGHTS_LOANS_WORDS
+#define SHORT_GRANTS grants, RIGHTS_GRANTS_BYTES - 1, loans, RIGHTS_LOANS_WORDS
+#define SHORT_LOANS grants, RIGHTS_GRANTS_BYTES, loans, RIGHTS_LOANS_WORDS - 1
+
+static void chains_create(unsigned by, unsigned on)
+{
+    grants_item(on, 1);
+    grants_grant(by, on, 0, 0, 1);
+    returned("chains create", rights_chains_create(UNIT, by, on), 0);
+}
+
+static void chains_grants(void)
+{
+    memset(grants, 0xa5, sizeof grants);
+    memset(loans, 0xa5, sizeof loans);
+    grants_item(ROOT, 1);
+    grants_grant(ROOT, ROOT, 0, 0, 1);
+    returned("chains fresh", rights_chains_fresh(UNIT), 0);
+    chains_create(ROOT, OWNER);
+    chains_create(ROOT, HOLDER);
+    chains_create(ROOT, BORROWER);
+    chains_create(OWNER, DRAWER);
+    grants_grant(HOLDER, DRAWER, RIGHT, DEPTH, 1);
+    returned("chains allow", rights_chains_allow(UNIT, OWNER, HOLDER, DRAWER, RIGHT, DEPTH), 0);
+    grants_grant(HOLDER, DRAWER, RIGHT, 1, 1);
+    returned("chains allow", rights_chains_allow(UNIT, OWNER, HOLDER, DRAWER, RIGHT, 1), 0);
+}
+
+static void chains_loans(void)
+{
+    loans_due[0] = 1;
+    loans_due[1] = loan(HOLDER, DRAWER, RIGHT, BORROWER, LOAN_DEPTH);
+    returned("chains lend", rights_chains_lend(UNIT, HOLDER, BORROWER, DRAWER, RIGHT, LOAN_DEPTH), 0);
+    loans_due[0] = 2;
+    loans_due[2] = loan(BORROWER, DRAWER, RIGHT, OWNER, 4);
+    returned("chains lend", rights_chains_lend(UNIT, BORROWER, OWNER, DRAWER, RIGHT, 4), 0);
+    returned("chains lend, right 0", rights_chains_lend(UNIT, BORROWER, OWNER, DRAWER, 0, 4), 9);
+    returned("chains recall, another depth", rights_chains_recall(UNIT, HOLDER, BORROWER, DRAWER, RIGHT, 1), 0);
+}
+
+/* A check of the chain unit: its number, the depth, the number of persons and the buffer's 8 bytes. */
+static void chains_check(const char *call, uint32_t who, uint32_t depth_due, uint32_t persons_due, const uint8_t *chain_due)
+{
+    uint8_t chain[RIGHTS_CHAIN_PERSONS];
+    uint32_t depth = 77, persons = 77;
+    memset(chain, 0xa5, sizeof chain);
+    returned(call, rights_chains_check(UNIT, who, DRAWER, RIGHT, chain, RIGHTS_CHAIN_PERSONS, &depth, &persons), 0);
+    same(call, "the depth", depth, depth_due);
+    same(call, "the number of persons", persons, persons_due);
+    same_bytes(call, "the chain", chain, chain_due, sizeof chain);
+}
+
+static void chains_answers(void)
+{
+    static const uint8_t through[RIGHTS_CHAIN_PERSONS] = {HOLDER, BORROWER, OWNER, 255, 255, 255, 255, 255};
+    static const uint8_t nobody[RIGHTS_CHAIN_PERSONS] = {255, 255, 255, 255, 255, 255, 255, 255};
+    chains_check("chains check", OWNER, 1, 3, through);
+    chains_check("chains check, no", ROOT, 0, 0, nobody);
+    returned("chains inspect", rights_chains_inspect(UNIT), 0);
+    loans[0] = loans_due[0] = 1;
+    returned("chains inspect, one loan uncounted", rights_chains_inspect(UNIT), 2);
+    loans[0] = loans_due[0] = 2;
+}
+
+static void chains_refused_check(uint32_t right, size_t bytes, size_t words, size_t persons_max, uint32_t due)
+{
+    uint8_t chain[RIGHTS_CHAIN_PERSONS], before[RIGHTS_CHAIN_PERSONS];
+    uint32_t depth = 77, persons = 77;
+    memset(chain, 0xa5, sizeof chain);
+    memcpy(before, chain, sizeof before);
+    returned("chains check, refused",
+             rights_chains_check(grants, bytes, loans, words, OWNER, DRAWER, right, chain, persons_max, &depth, &persons), due);
+    same("chains check, refused", "the depth", depth, 0);
+    same("chains check, refused", "the number of persons", persons, 0);
+    same_bytes("chains check, refused", "the chain", chain, before, sizeof chain);
+}
+
+static void chains_refusals(void)
+{
+    chains_refused_check(8, RIGHTS_GRANTS_BYTES, RIGHTS_LOANS_WORDS, RIGHTS_CHAIN_PERSONS, 3);
+    chains_refused_check(RIGHT, RIGHTS_GRANTS_BYTES - 1, RIGHTS_LOANS_WORDS, RIGHTS_CHAIN_PERSONS, 1);
+    chains_refused_check(RIGHT, RIGHTS_GRANTS_BYTES, RIGHTS_LOANS_WORDS - 1, RIGHTS_CHAIN_PERSONS, 1);
+    chains_refused_check(RIGHT, RIGHTS_GRANTS_BYTES, RIGHTS_LOANS_WORDS, RIGHTS_CHAIN_PERSONS - 1, 1);
+}
+
+#define REFUSED_LENGTHS(SHORT) \
+    returned("chains fresh, length", rights_chains_fresh(SHORT), 1); \
+    returned("chains create, length", rights_chains_create(SHORT, ROOT, DEAD), 1); \
+    returned("chains delete, length", rights_chains_delete(SHORT, OWNER, DRAWER), 1); \
+    returned("chains allow, length", rights_chains_allow(SHORT, OWNER, HOLDER, DRAWER, RIGHT, DEPTH), 1); \
+    returned("chains withdraw, length", rights_chains_withdraw(SHORT, OWNER, HOLDER, DRAWER, RIGHT), 1); \
+    returned("chains lend, length", rights_chains_lend(SHORT, HOLDER, BORROWER, DRAWER, RIGHT, DEPTH), 1); \
+    returned("chains recall, length", rights_chains_recall(SHORT, HOLDER, BORROWER, DRAWER, RIGHT, LOAN_DEPTH), 1); \
+    returned("chains inspect, length", rights_chains_inspect(SHORT), 1);
+
+static void chains_lengths(void)
+{
+    REFUSED_LENGTHS(SHORT_GRANTS)
+    REFUSED_LENGTHS(SHORT_LOANS)
+}
+
+static void chains_endings(void)
+{
+    loans_due[0] = 1;
+    loans_due[1] = loans_due[2];
+    loans_due[2] = 0;
+    returned("chains recall", rights_chains_recall(UNIT, HOLDER, BORROWER, DRAWER, RIGHT, LOAN_DEPTH), 0);
+    grants_grant(HOLDER, DRAWER, RIGHT, DEPTH, 0);
+    grants_grant(HOLDER, DRAWER, RIGHT, 1, 0);
+    returned("chains withdraw", rights_chains_withdraw(UNIT, OWNER, HOLDER, DRAWER, RIGHT), 0);
+    grants_grant(OWNER, DRAWER, 0, 0, 0);
+    grants_item(DRAWER, 0);
+    loans_due[0] = loans_due[1] = 0;
+    returned("chains delete", rights_chains_delete(UNIT, OWNER, DRAWER), 0);
+}
+
+/* ---- which engine this is, and the texts */
+
+static void engine(void)
+{
+    same("version", "the number", rights_version(), RIGHTS_VERSION);
+    same("layout date", "the number", rights_layout_date(), RIGHTS_LAYOUT_DATE);
+}
+
+/* Every number has a text of its own, and every other number the same one. */
+static void texts(void)
+{
+    const char *other = rights_text(RIGHTS_MALFORMED + 1);
+    same("text", "that of 4294967295 for no number", (uint64_t)strcmp(rights_text(UINT32_MAX), other), 0);
+    for (uint32_t n = RIGHTS_DONE; n <= RIGHTS_MALFORMED; n++) {
+        same("text", "one of no letters", strlen(rights_text(n)) == 0, 0);
+        same("text", "that of no number", strcmp(rights_text(n), other) == 0, 0);
+        for (uint32_t m = RIGHTS_DONE; m < n; m++)
+            same("text", "two numbers with one text", strcmp(rights_text(n), rights_text(m)) == 0, 0);
+    }
+    same("text of 0", "the word", (uint64_t)strcmp(rights_text(RIGHTS_DONE), "done"), 0);
+}
+
+int main(void)
+{
+    memset(lists, 0, sizeof lists);
+    lists_grants();
+    lists_answers();
+    rows_grants();
+    rows_answers();
+    conversions();
+    lists_endings();
+    rows_endings();
+    lists_lengths();
+    rows_lengths();
+    chains_grants();
+    chains_loans();
+    chains_answers();
+    chains_refusals();
+    chains_lengths();
+    chains_endings();
+    engine();
+    texts();
+    printf("C calls: %u compared, %u differ\n", compared, differences);
+    return differences == 0 ? 0 : 1;
+}
