@@ -24,7 +24,7 @@
  * - Byte order: least byte first, which is how this machine holds words.
  * - Layout: keep RIGHTS_LAYOUT_DATE beside every stored image, and read no image with another date.
  * - Integrity: 'in order' is no checksum. Of the single-bit changes to the images of one state 4,270 left them in order, each then
- *   with other grants or loans. Keep a checksum beside every stored image, and compare it before rights_*_inspect.
+ *   with other items, grants or loans. Keep a checksum beside every stored image, and compare it before rights_*_inspect.
  *
  * At start-up compare the header with the library, so that neither is of another engine:
  *

@@ -1,8 +1,9 @@
 //! What is measured: the public functions of the engine, as a table of functions that two implementations fill.
 
 pub use rights::{
-    ALREADY_LIVE, BY_DEAD, CHAIN_PERSONS, DEPTH_MAX, DONE, EDIT_RIGHT, FULL, GRANTS_BYTES, ITEM_MAX, LISTS_WORDS, LOANS_MAX, LOANS_WORDS,
-    NAMED_DEAD, NOT_IN_ORDER, NO_EDIT, OUT_OF_RANGE, RIGHT_MAX, ROOT_ITEM, ROWS_BYTES, WRONG_LENGTH,
+    ALREADY_LIVE, BY_DEAD, CHAIN_PERSONS, DEPTH_MAX, DONE, EDIT_RIGHT, FULL, GRANTS_BYTES, ITEM_MAX, LISTS_WORDS,
+    LOANS_MAX, LOANS_WORDS, NAMED_DEAD, NOT_IN_ORDER, NO_EDIT, OUT_OF_RANGE, RIGHT_MAX, ROOT_ITEM, ROWS_BYTES,
+    WRONG_LENGTH,
 };
 
 pub const NO_PERSON: u8 = rights::NO_PERSON as u8;
@@ -49,7 +50,7 @@ pub struct Flat<C: 'static> {
     pub withdraw: fn(&mut [C], Grant) -> u32,
     pub check: fn(&[C], Question) -> Said,
     pub subjects: fn(&[C]) -> Said,
-    pub in_order: fn(&[C]) -> u32,
+    pub inspect: fn(&[C]) -> u32,
 }
 
 pub struct Chains {
@@ -61,7 +62,7 @@ pub struct Chains {
     pub lend: fn(&mut [u8], &mut [u32], Grant) -> u32,
     pub recall: fn(&mut [u8], &mut [u32], Grant) -> u32,
     pub check: fn(&[u8], &[u32], Question, &mut [u8]) -> Found,
-    pub in_order: fn(&[u8], &[u32]) -> u32,
+    pub inspect: fn(&[u8], &[u32]) -> u32,
 }
 
 pub struct Api {

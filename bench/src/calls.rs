@@ -67,7 +67,7 @@ fn flat_cases<C: Clone + From<u8>>(unit: &Flat<C>, cells: usize) -> Vec<Case<Fla
         case("check", 1, |u, s| digest((u.check)(s, Question { who: 0, on: 7, right: 0 }))),
         case("check, refused with 3", 1, |u, s| digest((u.check)(s, Question { who: 64, on: 7, right: 0 }))),
         case("subjects", 1, |u, s| digest((u.subjects)(s))),
-        case("in order", 1, |u, s| u64::from((u.in_order)(s))),
+        case("inspect", 1, |u, s| u64::from((u.inspect)(s))),
     ]
 }
 
@@ -118,7 +118,7 @@ fn grant_cases(loans: u32) -> Vec<ChainCase> {
         case("allow, refused with 8", 1, |u, s| {
             u64::from((u.allow)(&mut s.grants, &mut s.loans, Grant { by: 6, ..GRANT }))
         }),
-        case("in order", 1, |u, s| u64::from((u.in_order)(&s.grants, &s.loans))),
+        case("inspect", 1, |u, s| u64::from((u.inspect)(&s.grants, &s.loans))),
     ]
 }
 

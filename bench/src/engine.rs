@@ -19,7 +19,7 @@ macro_rules! flat_unit {
                 let (number, value) = $unit::subjects(image);
                 Said { number, value }
             },
-            in_order: $unit::in_order,
+            inspect: $unit::inspect,
         }
     };
 }
@@ -36,7 +36,7 @@ const CHAINS: Chains = Chains {
         let checked = chains::check(grants, loans, q.who, q.on, q.right, chain);
         Found { number: checked.number, depth: checked.depth, persons: checked.persons }
     },
-    in_order: chains::in_order,
+    inspect: chains::inspect,
 };
 
 pub const ENGINE: Api = Api {

@@ -98,10 +98,10 @@ fn judge_torn(units: &Units, seeded: &mut Seeded) {
     let near = (torn.chains.loans[0] + 3).min(LOANS_MAX);
     torn.chains.loans[seeded.below(near) as usize] ^= 1 << seeded.below(32);
     let judged = [&ENGINE, &PLAIN].map(|api| {
-        let chains = (api.chains.in_order)(&torn.chains.grants, &torn.chains.loans);
-        [(api.lists.in_order)(&torn.flat.lists), (api.rows.in_order)(&torn.flat.rows), chains]
+        let chains = (api.chains.inspect)(&torn.chains.grants, &torn.chains.loans);
+        [(api.lists.inspect)(&torn.flat.lists), (api.rows.inspect)(&torn.flat.rows), chains]
     });
-    assert_eq!(judged[0], judged[1], "the in-order tests differ");
+    assert_eq!(judged[0], judged[1], "the inspections differ");
 }
 
 pub fn run() {

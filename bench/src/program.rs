@@ -21,8 +21,18 @@ fn all_streams() -> Vec<Stream> {
     let stream = |name, lines, opening, for_sqlite| Stream { name, lines, opening, for_sqlite };
     vec![
         stream("checks, 20 items and 30 loans", streams::checks(500_000), streams::SMALL_OPENING, 30_000),
-        stream("commands and checks, 20 items and at most 30 loans", streams::mixed(500_000), streams::SMALL_OPENING, 30_000),
-        stream("commands and checks, 20 items, loans piling up", streams::growing(500_000), streams::SMALL_OPENING, 30_000),
+        stream(
+            "commands and checks, 20 items and at most 30 loans",
+            streams::mixed(500_000),
+            streams::SMALL_OPENING,
+            30_000,
+        ),
+        stream(
+            "commands and checks, 20 items, loans piling up",
+            streams::growing(500_000),
+            streams::SMALL_OPENING,
+            30_000,
+        ),
         stream("malformed lines", streams::malformed(500_000), 0, 200_000),
         stream("checks, 1,024 loans of the key", streams::full(50_000), streams::FULL_OPENING, 1_700),
     ]

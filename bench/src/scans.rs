@@ -19,23 +19,23 @@ fn sum_loans(table: &[u32]) -> u64 {
     u64::from(table.iter().fold(0u32, |sum, word| sum.wrapping_add(*word)))
 }
 
-fn scan<S>(name: String, mut state: S, in_order: fn(&S) -> u64, read: fn(&S) -> u64) -> Line {
-    assert_eq!(in_order(&state), u64::from(DONE), "{name}: not in order");
-    Line { name, times: compare(&mut state, 1, |s| in_order(s), |s| read(s)) }
+fn scan<S>(name: String, mut state: S, inspect: fn(&S) -> u64, read: fn(&S) -> u64) -> Line {
+    assert_eq!(inspect(&state), u64::from(DONE), "{name}: not in order");
+    Line { name, times: compare(&mut state, 1, |s| inspect(s), |s| read(s)) }
 }
 
 fn chain_scan(loans: u32) -> Line {
-    let in_order = |s: &ChainState| u64::from((ENGINE.chains.in_order)(&s.grants, &s.loans));
+    let inspect = |s: &ChainState| u64::from((ENGINE.chains.inspect)(&s.grants, &s.loans));
     let read = |s: &ChainState| sum_bytes(&s.grants).wrapping_add(sum_loans(&s.loans));
-    scan(format!("grants and loans, {} loans", written(loans)), ChainState::spread(loans), in_order, read)
+    scan(format!("grants and loans, {} loans", written(loans)), ChainState::spread(loans), inspect, read)
 }
 
 pub fn scans() -> Vec<Line> {
     let lists = home(&PLAIN.lists, LISTS_WORDS);
     let rows = home(&PLAIN.rows, ROWS_BYTES);
     vec![
-        scan("lists".to_string(), lists, |s| u64::from((ENGINE.lists.in_order)(s)), |s| sum_words(s)),
-        scan("rows".to_string(), rows, |s| u64::from((ENGINE.rows.in_order)(s)), |s| sum_bytes(s)),
+        scan("lists".to_string(), lists, |s| u64::from((ENGINE.lists.inspect)(s)), |s| sum_words(s)),
+        scan("rows".to_string(), rows, |s| u64::from((ENGINE.rows.inspect)(s)), |s| sum_bytes(s)),
         chain_scan(0),
         chain_scan(64),
         chain_scan(1024),

@@ -1,10 +1,10 @@
-use crate::refusal::{answer, done};
-use crate::{lent, Depth, Item, Refusal, Right, CHAIN_PERSONS, GRANTS_BYTES, LOANS_WORDS};
+use core::mem::MaybeUninit;
+
+use crate::{
+    answer, lent, Depth, Item, Refusal, Right, CHAIN_PERSONS, GRANTS_BYTES, LOANS_WORDS, NO_PERSON,
+};
 
 /// The chain unit: grants and loans with depths, and the check that follows loans.
-///
-/// The images, 36,876 bytes, lie in the value itself and not in a heap, so that a program without a
-/// heap can keep the unit in a static; `Box<Chains>` moves it to the heap where there is one.
 ///
 /// ```
 /// use rights::{Chains, Depth, Item, Refusal, Right};
@@ -17,45 +17,194 @@ use crate::{lent, Depth, Item, Refusal, Right, CHAIN_PERSONS, GRANTS_BYTES, LOAN
 /// unit.lend(Item(3), Item(4), Item(9), Right(1), Depth(0))?;
 /// let answer = unit.check(Item(4), Item(9), Right(1))?;
 /// assert!(answer.yes());
-/// assert_eq!((answer.depth(), answer.persons()), (Depth(0), &[3, 4][..]));
+/// assert_eq!((answer.depth(), answer.persons()), (Depth(0), &[Item(3), Item(4)][..]));
 ///
 /// unit.withdraw(Item(0), Item(3), Item(9), Right(1))?;
 /// assert!(!unit.check(Item(4), Item(9), Right(1))?.yes());
 /// # Ok::<(), Refusal>(())
 /// ```
-#[derive(Clone, Debug, PartialEq, Eq)]
+///
+/// The images, 36,876 bytes, lie in the value itself. A static holds a unit without a heap and
+/// without that much on the stack; there [`reset`](Chains::reset), [`load`](Chains::load) and
+/// `clone_from` change it in place:
+///
+/// ```
+/// use std::sync::Mutex;
+///
+/// use rights::{Chains, Item, Refusal};
+///
+/// static UNIT: Mutex<Chains> = Mutex::new(Chains::fresh());
+///
+/// let mut unit = UNIT.lock().unwrap();
+/// unit.create(Item(0), Item(3))?;
+/// let stored = (unit.grants().to_vec(), unit.loans().to_vec());
+/// unit.reset();
+/// assert_eq!(unit.create(Item(0), Item(3)), Ok(()));
+/// unit.load(&stored.0, &stored.1)?;
+/// assert_eq!(unit.create(Item(0), Item(3)), Err(Refusal::AlreadyLive));
+/// # Ok::<(), Refusal>(())
+/// ```
+///
+/// In memory that is not initialised yet, which as a static takes no room in the program's file,
+/// [`fresh_in`](Chains::fresh_in) and [`from_images_in`](Chains::from_images_in) make one. With the
+/// feature `alloc`, `boxed` and `boxed_from_images` make one on the heap.
+#[derive(Debug, PartialEq, Eq)]
 pub struct Chains {
     grants: [u8; GRANTS_BYTES],
     loans: [u32; LOANS_WORDS],
 }
 
+/// Making a unit.
 impl Chains {
-    /// A fresh unit: item 0 lives and may edit itself; no loan stands.
-    pub fn fresh() -> Self {
+    /// A fresh unit: item 0 lives and may edit itself; no loan stands. It can begin a static.
+    #[must_use]
+    pub const fn fresh() -> Self {
         let mut unit = Self { grants: [0; GRANTS_BYTES], loans: [0; LOANS_WORDS] };
-        done(lent::chains::fresh(&mut unit.grants, &mut unit.loans));
+        unit.set_root();
         unit
     }
 
     /// The unit of two stored images, if the engine finds them in order.
     pub fn from_images(grants: &[u8], loans: &[u32]) -> Result<Self, Refusal> {
-        answer(lent::chains::in_order(grants, loans))?;
-        let mut unit = Self { grants: [0; GRANTS_BYTES], loans: [0; LOANS_WORDS] };
-        unit.grants.copy_from_slice(grants);
-        unit.loans.copy_from_slice(loans);
+        let mut unit = Self::fresh();
+        unit.load(grants, loans)?;
         Ok(unit)
     }
 
-    /// The image of the grants, to be stored.
-    pub fn grants(&self) -> &[u8; GRANTS_BYTES] {
+    /// Makes a fresh unit in place.
+    ///
+    /// ```
+    /// use std::mem::MaybeUninit;
+    ///
+    /// use rights::Chains;
+    ///
+    /// let mut place = MaybeUninit::uninit();
+    /// assert_eq!(*Chains::fresh_in(&mut place), Chains::fresh());
+    /// ```
+    pub fn fresh_in(place: &mut MaybeUninit<Self>) -> &mut Self {
+        let unit = zeroed(place);
+        unit.set_root();
+        unit
+    }
+
+    /// Makes the unit of two stored images in place, if the engine finds them in order.
+    ///
+    /// ```
+    /// use std::mem::MaybeUninit;
+    ///
+    /// use rights::{Chains, Refusal};
+    ///
+    /// let stored = Chains::fresh();
+    /// let mut place = MaybeUninit::uninit();
+    /// let unit = Chains::from_images_in(&mut place, stored.grants(), stored.loans())?;
+    /// assert_eq!(*unit, stored);
+    /// # Ok::<(), Refusal>(())
+    /// ```
+    pub fn from_images_in<'a>(
+        place: &'a mut MaybeUninit<Self>,
+        grants: &[u8],
+        loans: &[u32],
+    ) -> Result<&'a mut Self, Refusal> {
+        let unit = zeroed(place);
+        unit.load(grants, loans)?;
+        Ok(unit)
+    }
+
+    /// Makes the unit fresh again.
+    pub fn reset(&mut self) {
+        self.grants.fill(0);
+        self.loans.fill(0);
+        self.set_root();
+    }
+
+    /// Puts two stored images in the place of the unit's, if the engine finds them in order.
+    pub fn load(&mut self, grants: &[u8], loans: &[u32]) -> Result<(), Refusal> {
+        answer(lent::chains::inspect(grants, loans))?;
+        self.grants.copy_from_slice(grants);
+        self.loans.copy_from_slice(loans);
+        Ok(())
+    }
+
+    /// Item 0 lives and may edit itself, where all else is 0.
+    const fn set_root(&mut self) {
+        self.grants[0] = 1;
+        self.grants[8] = 1;
+    }
+}
+
+/// Zeros in place; no unit that a call would accept, as item 0 does not live.
+#[allow(unsafe_code)]
+fn zeroed(place: &mut MaybeUninit<Chains>) -> &mut Chains {
+    // SAFETY: the pointer is that of a whole place, and zeros are numbers of every element.
+    unsafe {
+        place.as_mut_ptr().write_bytes(0, 1);
+        place.assume_init_mut()
+    }
+}
+
+/// Units on the heap, with the feature `alloc`.
+#[cfg(feature = "alloc")]
+mod boxed {
+    use alloc::boxed::Box;
+
+    use super::{zeroed, Chains};
+    use crate::Refusal;
+
+    impl Chains {
+        /// A fresh unit, made on the heap.
+        ///
+        /// ```
+        /// assert_eq!(*rights::Chains::boxed(), rights::Chains::fresh());
+        /// ```
+        #[must_use]
+        pub fn boxed() -> Box<Self> {
+            let mut unit = zeroed_box();
+            unit.set_root();
+            unit
+        }
+
+        /// The unit of two stored images, made on the heap, if the engine finds them in order.
+        ///
+        /// ```
+        /// use rights::{Chains, Refusal};
+        ///
+        /// let stored = Chains::boxed();
+        /// assert_eq!(Chains::boxed_from_images(stored.grants(), stored.loans())?, stored);
+        /// # Ok::<(), Refusal>(())
+        /// ```
+        pub fn boxed_from_images(grants: &[u8], loans: &[u32]) -> Result<Box<Self>, Refusal> {
+            let mut unit = zeroed_box();
+            unit.load(grants, loans)?;
+            Ok(unit)
+        }
+    }
+
+    #[allow(unsafe_code)]
+    fn zeroed_box() -> Box<Chains> {
+        let mut place = Box::new_uninit();
+        zeroed(&mut place);
+        // SAFETY: the place was just initialised.
+        unsafe { place.assume_init() }
+    }
+}
+
+/// The images, to be stored.
+impl Chains {
+    /// The image of the grants.
+    #[must_use]
+    pub const fn grants(&self) -> &[u8; GRANTS_BYTES] {
         &self.grants
     }
 
-    /// The image of the loans, to be stored.
-    pub fn loans(&self) -> &[u32; LOANS_WORDS] {
+    /// The image of the loans.
+    #[must_use]
+    pub const fn loans(&self) -> &[u32; LOANS_WORDS] {
         &self.loans
     }
+}
 
+/// The commands and the check.
+impl Chains {
     /// `on` lives, and `by` may edit it.
     pub fn create(&mut self, by: Item, on: Item) -> Result<(), Refusal> {
         answer(lent::chains::create(&mut self.grants, &mut self.loans, by.0, on.0))
@@ -85,7 +234,7 @@ impl Chains {
         answer(lent::chains::withdraw(grants, loans, by.0, to.0, on.0, right.0))
     }
 
-    /// Lends the right on the item from `by` to `to` at the depth, whether `by` holds it yet or not.
+    /// Lends the right on the item from `by` to `to` at the depth, also where `by` holds none yet.
     pub fn lend(
         &mut self,
         by: Item,
@@ -113,16 +262,25 @@ impl Chains {
 
     /// Whether a chain gives `who` the right on the item, with the greatest depth of any.
     pub fn check(&self, who: Item, on: Item, right: Right) -> Result<CheckAnswer, Refusal> {
-        let mut chain = [0; CHAIN_PERSONS];
-        let checked =
-            lent::chains::check(&self.grants, &self.loans, who.0, on.0, right.0, &mut chain);
+        let mut chain = [NO_PERSON as u8; CHAIN_PERSONS];
+        let (grants, loans) = (&self.grants, &self.loans);
+        let checked = lent::chains::check(grants, loans, who.0, on.0, right.0, &mut chain);
         answer(checked.number)?;
-        Ok(CheckAnswer { depth: checked.depth, persons: checked.persons, chain })
+        let chain = chain.map(|person| Item(person.into()));
+        Ok(CheckAnswer { depth: Depth(checked.depth), persons: checked.persons, chain })
+    }
+}
+
+/// `clone_from` copies in place: the way to run a command on a copy first, where the unit itself
+/// must change as a whole or not at all.
+impl Clone for Chains {
+    fn clone(&self) -> Self {
+        Self { grants: self.grants, loans: self.loans }
     }
 
-    /// What the engine says of the images; always in order, since only the engine writes them.
-    pub fn in_order(&self) -> Result<(), Refusal> {
-        answer(lent::chains::in_order(&self.grants, &self.loans))
+    fn clone_from(&mut self, source: &Self) {
+        self.grants.copy_from_slice(&source.grants);
+        self.loans.copy_from_slice(&source.loans);
     }
 }
 
@@ -133,26 +291,44 @@ impl Default for Chains {
 }
 
 /// The answer of a chain unit's check.
+///
+/// ```
+/// use rights::{Chains, Depth, Item, Refusal, Right};
+///
+/// let unit = Chains::fresh();
+/// let yes = unit.check(Item(0), Item(0), Right(0))?;
+/// assert!(yes.yes());
+/// assert_eq!((yes.depth(), yes.persons()), (Depth(0), &[Item(0)][..]));
+///
+/// let no = unit.check(Item(0), Item(0), Right(1))?;
+/// assert!(!no.yes());
+/// assert_eq!((no.depth(), no.persons()), (Depth(0), &[][..]));
+/// # Ok::<(), Refusal>(())
+/// ```
 #[derive(Clone, Copy, Debug, PartialEq, Eq)]
+#[must_use]
 pub struct CheckAnswer {
-    depth: u32,
+    depth: Depth,
     persons: u32,
-    chain: [u8; CHAIN_PERSONS],
+    chain: [Item; CHAIN_PERSONS],
 }
 
 impl CheckAnswer {
     /// Whether a chain exists.
+    #[must_use]
     pub fn yes(&self) -> bool {
-        self.persons != 0
+        !self.persons().is_empty()
     }
 
     /// The depth that the chain ends with, the greatest of any; 0 on no.
-    pub fn depth(&self) -> Depth {
-        Depth(self.depth)
+    #[must_use]
+    pub const fn depth(&self) -> Depth {
+        self.depth
     }
 
     /// The persons of the chain, the one with the grant first; none on no.
-    pub fn persons(&self) -> &[u8] {
-        &self.chain[..self.persons as usize]
+    #[must_use]
+    pub fn persons(&self) -> &[Item] {
+        self.chain.get(..self.persons as usize).unwrap_or_default()
     }
 }

@@ -1,9 +1,8 @@
-use crate::refusal::{answer, done};
-use crate::{lent, Depth, Item, Refusal, Right, LISTS_WORDS, ROWS_BYTES};
+use crate::{answer, lent, Depth, Item, Refusal, Right, LISTS_WORDS, ROWS_BYTES};
 
-/// A unit without depth that owns its image.
+/// A unit without depth that owns its image. `root` is the cell of item 0's grants on itself.
 macro_rules! own_flat {
-    ($(#[$doc:meta])* $name:ident, $unit:ident, $cell:ty, $length:ident) => {
+    ($(#[$doc:meta])* $name:ident, $unit:ident, $cell:ty, $length:ident, root: $root:literal) => {
         $(#[$doc])*
         #[derive(Clone, Debug, PartialEq, Eq)]
         pub struct $name {
@@ -11,23 +10,26 @@ macro_rules! own_flat {
         }
 
         impl $name {
-            /// A fresh unit: item 0 lives and may edit itself.
-            pub fn fresh() -> Self {
+            /// A fresh unit: item 0 lives and may edit itself. It can begin a static.
+            #[must_use]
+            pub const fn fresh() -> Self {
                 let mut image = [0; $length];
-                done(lent::$unit::fresh(&mut image));
+                image[0] = 1;
+                image[$root] = 1;
                 Self { image }
             }
 
             /// The unit of a stored image, if the engine finds it in order.
             pub fn from_image(image: &[$cell]) -> Result<Self, Refusal> {
-                answer(lent::$unit::in_order(image))?;
-                let mut own = [0; $length];
-                own.copy_from_slice(image);
-                Ok(Self { image: own })
+                answer(lent::$unit::inspect(image))?;
+                let mut unit = Self::fresh();
+                unit.image.copy_from_slice(image);
+                Ok(unit)
             }
 
             /// The image, to be stored.
-            pub fn image(&self) -> &[$cell; $length] {
+            #[must_use]
+            pub const fn image(&self) -> &[$cell; $length] {
                 &self.image
             }
 
@@ -71,15 +73,10 @@ macro_rules! own_flat {
             }
 
             /// The persons with at least one grant, bit i for item i.
+            #[must_use]
             pub fn subjects(&self) -> u64 {
-                let (number, persons) = lent::$unit::subjects(&self.image);
-                done(number);
-                persons
-            }
-
-            /// What the engine says of the image; always in order, since only the engine writes it.
-            pub fn in_order(&self) -> Result<(), Refusal> {
-                answer(lent::$unit::in_order(&self.image))
+                // The engine refuses no image in order, and beside a refusal it names nobody.
+                lent::$unit::subjects(&self.image).1
             }
         }
 
@@ -110,7 +107,7 @@ own_flat!(
     /// assert_eq!(Lists::from_image(&stored[1..]), Err(Refusal::WrongLength));
     /// # Ok::<(), Refusal>(())
     /// ```
-    Lists, lists, u64, LISTS_WORDS
+    Lists, lists, u64, LISTS_WORDS, root: 1
 );
 
 own_flat!(
@@ -126,21 +123,23 @@ own_flat!(
     /// assert_eq!(Rows::from(&Lists::from(&rows)), rows);
     /// # Ok::<(), Refusal>(())
     /// ```
-    Rows, rows, u8, ROWS_BYTES
+    Rows, rows, u8, ROWS_BYTES, root: 8
 );
 
-impl From<&Lists> for Rows {
-    fn from(lists: &Lists) -> Self {
-        let mut image = [0; ROWS_BYTES];
-        done(lent::convert::lists_to_rows(&lists.image, &mut image));
-        Self { image }
-    }
+/// Turns one unit into the other.
+macro_rules! convert_flat {
+    ($from:ident, $into:ident, $call:ident, $length:ident) => {
+        impl From<&$from> for $into {
+            fn from(unit: &$from) -> Self {
+                let mut image = [0; $length];
+                // The engine refuses no image in order; were it to, the zeros would stay, and every
+                // call refuses those.
+                let _ = lent::convert::$call(&unit.image, &mut image);
+                Self { image }
+            }
+        }
+    };
 }
 
-impl From<&Rows> for Lists {
-    fn from(rows: &Rows) -> Self {
-        let mut image = [0; LISTS_WORDS];
-        done(lent::convert::rows_to_lists(&rows.image, &mut image));
-        Self { image }
-    }
-}
+convert_flat!(Lists, Rows, lists_to_rows, ROWS_BYTES);
+convert_flat!(Rows, Lists, rows_to_lists, LISTS_WORDS);

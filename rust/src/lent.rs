@@ -1,37 +1,50 @@
 //! The engine over lent slices of any length, by plain numbers.
 //!
-//! Each function passes its slices and numbers on and returns document 01's number as the engine
-//! gives it: 0 done, 1 to 10 refused. A slice of a wrong length is refused with 1. The types
-//! [`Lists`](crate::Lists), [`Rows`](crate::Rows) and [`Chains`](crate::Chains) own images of the
-//! right length and need none of this.
+//! Each function passes its slices and numbers on and returns the number that the engine gives: 0
+//! done, any other refused; [`answer`](crate::answer) makes a result of it. A slice of a wrong
+//! length is refused with 1. The types [`Lists`](crate::Lists), [`Rows`](crate::Rows) and
+//! [`Chains`](crate::Chains) own images of the right length and need none of this.
+//!
+//! ```
+//! use rights::lent;
+//!
+//! let mut image = vec![0; rights::ROWS_BYTES];
+//! assert_eq!(lent::rows::fresh(&mut image), rights::DONE);
+//! assert_eq!(lent::rows::fresh(&mut image[1..]), rights::WRONG_LENGTH);
+//! ```
 #![allow(unsafe_code)]
-// Every call below lends the pointer and the length of one slice, side by side, for the time of the
-// call: that is all that the declarations ask.
+// SAFETY of every call below: it lends the pointer and the length of one slice, side by side, for
+// the time of the call, and a shared slice only to a parameter that is not written. That is all
+// that the header asks.
 
 /// The functions of a unit without depth, over its one slice.
 macro_rules! lend_flat {
     ($(#[$doc:meta])* $unit:ident, $cell:ty, $fresh:ident, $create:ident, $delete:ident,
-     $allow:ident, $withdraw:ident, $check:ident, $subjects:ident, $in_order:ident) => {
+     $allow:ident, $withdraw:ident, $check:ident, $subjects:ident, $inspect:ident) => {
         $(#[$doc])*
         pub mod $unit {
             use crate::ffi;
 
             /// Makes a fresh unit, whatever the image held.
+            #[must_use]
             pub fn fresh(image: &mut [$cell]) -> u32 {
                 unsafe { ffi::$fresh(image.as_mut_ptr(), image.len()) }
             }
 
             /// create (by, on).
+            #[must_use]
             pub fn create(image: &mut [$cell], by: u32, on: u32) -> u32 {
                 unsafe { ffi::$create(image.as_mut_ptr(), image.len(), by, on) }
             }
 
             /// delete (by, on).
+            #[must_use]
             pub fn delete(image: &mut [$cell], by: u32, on: u32) -> u32 {
                 unsafe { ffi::$delete(image.as_mut_ptr(), image.len(), by, on) }
             }
 
             /// allow (by, to, on, right, depth); the depth is judged and dropped.
+            #[must_use]
             pub fn allow(
                 image: &mut [$cell],
                 by: u32,
@@ -44,11 +57,13 @@ macro_rules! lend_flat {
             }
 
             /// withdraw (by, to, on, right).
+            #[must_use]
             pub fn withdraw(image: &mut [$cell], by: u32, to: u32, on: u32, right: u32) -> u32 {
                 unsafe { ffi::$withdraw(image.as_mut_ptr(), image.len(), by, to, on, right) }
             }
 
             /// check (who, on, right): the number, and 1 for yes or 0 for no.
+            #[must_use]
             pub fn check(image: &[$cell], who: u32, on: u32, right: u32) -> (u32, u32) {
                 let mut yes = u32::MAX;
                 let number = unsafe {
@@ -58,6 +73,7 @@ macro_rules! lend_flat {
             }
 
             /// The number, and the persons with at least one grant, bit i for item i.
+            #[must_use]
             pub fn subjects(image: &[$cell]) -> (u32, u64) {
                 let mut persons = u64::MAX;
                 let number =
@@ -66,15 +82,31 @@ macro_rules! lend_flat {
             }
 
             /// 0 in order, 1 wrong length, 2 not in order.
-            pub fn in_order(image: &[$cell]) -> u32 {
-                unsafe { ffi::$in_order(image.as_ptr(), image.len()) }
+            #[must_use]
+            pub fn inspect(image: &[$cell]) -> u32 {
+                unsafe { ffi::$inspect(image.as_ptr(), image.len()) }
             }
         }
     };
 }
 
 lend_flat!(
-    /// Access control lists over 513 words.
+    /// Access control lists over [`LISTS_WORDS`](crate::LISTS_WORDS) words.
+    ///
+    /// ```
+    /// use rights::lent::lists;
+    ///
+    /// let mut image = [0; rights::LISTS_WORDS];
+    /// assert_eq!(lists::fresh(&mut image), 0);
+    /// assert_eq!(lists::create(&mut image, 0, 9), 0);
+    /// assert_eq!(lists::allow(&mut image, 0, 9, 0, 1, 0), 0);
+    /// assert_eq!(lists::check(&image, 9, 0, 1), (0, 1));
+    /// assert_eq!(lists::subjects(&image), (0, 1 << 0 | 1 << 9));
+    /// assert_eq!(lists::withdraw(&mut image, 0, 9, 0, 1), 0);
+    /// assert_eq!(lists::check(&image, 9, 0, 1), (0, 0));
+    /// image[0] = 0;
+    /// assert_eq!(lists::inspect(&image), rights::NOT_IN_ORDER);
+    /// ```
     lists,
     u64,
     rights_lists_fresh,
@@ -84,11 +116,23 @@ lend_flat!(
     rights_lists_withdraw,
     rights_lists_check,
     rights_lists_subjects,
-    rights_lists_in_order
+    rights_lists_inspect
 );
 
 lend_flat!(
-    /// Capability rows over 4,104 bytes.
+    /// Capability rows over [`ROWS_BYTES`](crate::ROWS_BYTES) bytes.
+    ///
+    /// ```
+    /// use rights::lent::rows;
+    ///
+    /// let mut image = [0; rights::ROWS_BYTES];
+    /// assert_eq!(rows::fresh(&mut image), 0);
+    /// assert_eq!(rows::create(&mut image, 0, 9), 0);
+    /// assert_eq!(rows::check(&image, 0, 9, 0), (0, 1));
+    /// assert_eq!(rows::delete(&mut image, 0, 9), 0);
+    /// assert_eq!(rows::check(&image, 0, 9, 0), (0, 0));
+    /// assert_eq!(rows::inspect(&image[1..]), rights::WRONG_LENGTH);
+    /// ```
     rows,
     u8,
     rights_rows_fresh,
@@ -98,14 +142,27 @@ lend_flat!(
     rights_rows_withdraw,
     rights_rows_check,
     rights_rows_subjects,
-    rights_rows_in_order
+    rights_rows_inspect
 );
 
 /// Lists into rows and rows into lists; the image that is written is not judged.
+///
+/// ```
+/// use rights::lent::{convert, lists, rows};
+///
+/// let (mut words, mut bytes) = ([0; rights::LISTS_WORDS], [7; rights::ROWS_BYTES]);
+/// assert_eq!(lists::fresh(&mut words), 0);
+/// assert_eq!(convert::lists_to_rows(&words, &mut bytes), 0);
+/// assert_eq!(rows::check(&bytes, 0, 0, 0), (0, 1));
+/// let fresh = words;
+/// assert_eq!(convert::rows_to_lists(&bytes, &mut words), 0);
+/// assert_eq!(words, fresh);
+/// ```
 pub mod convert {
     use crate::ffi;
 
     /// Writes the rows of the lists.
+    #[must_use]
     pub fn lists_to_rows(lists: &[u64], rows: &mut [u8]) -> u32 {
         unsafe {
             ffi::rights_lists_to_rows(lists.as_ptr(), lists.len(), rows.as_mut_ptr(), rows.len())
@@ -113,6 +170,7 @@ pub mod convert {
     }
 
     /// Writes the lists of the rows.
+    #[must_use]
     pub fn rows_to_lists(rows: &[u8], lists: &mut [u64]) -> u32 {
         unsafe {
             ffi::rights_rows_to_lists(rows.as_ptr(), rows.len(), lists.as_mut_ptr(), lists.len())
@@ -120,14 +178,41 @@ pub mod convert {
     }
 }
 
-/// The chain unit over 32,776 bytes of grants and 1,025 words of loans.
+/// The chain unit over [`GRANTS_BYTES`](crate::GRANTS_BYTES) bytes of grants and
+/// [`LOANS_WORDS`](crate::LOANS_WORDS) words of loans.
+///
+/// ```
+/// use rights::lent::chains;
+///
+/// let (mut grants, mut loans) = (vec![0; rights::GRANTS_BYTES], vec![0; rights::LOANS_WORDS]);
+/// assert_eq!(chains::fresh(&mut grants, &mut loans), 0);
+/// assert_eq!(chains::create(&mut grants, &mut loans, 0, 9), 0);
+/// assert_eq!(chains::lend(&mut grants, &mut loans, 0, 9, 9, 1, 0), 0);
+/// assert_eq!(loans[0], 1);
+/// assert_eq!(chains::recall(&mut grants, &mut loans, 0, 9, 9, 1, 0), 0);
+/// assert_eq!(loans[0], 0);
+/// loans[0] = 1;
+/// assert_eq!(chains::inspect(&grants, &loans), rights::NOT_IN_ORDER);
+/// ```
 pub mod chains {
     use crate::ffi;
 
     /// What a check returned and wrote beside the chain.
+    ///
+    /// ```
+    /// use rights::lent::chains::{check, fresh, Checked};
+    ///
+    /// let (mut grants, mut loans) = (vec![0; rights::GRANTS_BYTES], vec![0; rights::LOANS_WORDS]);
+    /// assert_eq!(fresh(&mut grants, &mut loans), 0);
+    /// let mut chain = [0; rights::CHAIN_PERSONS];
+    /// let checked = check(&grants, &loans, 0, 0, 0, &mut chain);
+    /// assert_eq!(checked, Checked { number: 0, depth: 0, persons: 1 });
+    /// assert_eq!(chain, [0, 255, 255, 255, 255, 255, 255, 255]);
+    /// ```
+    #[must_use]
     #[derive(Clone, Copy, Debug, PartialEq, Eq)]
     pub struct Checked {
-        /// Document 01's number.
+        /// The engine's number.
         pub number: u32,
         /// The depth the chain ends with; 0 on no and beside a refusal.
         pub depth: u32,
@@ -139,6 +224,7 @@ pub mod chains {
     macro_rules! lend_command {
         ($(#[$doc:meta])* $name:ident, $call:ident, $($argument:ident),*) => {
             $(#[$doc])*
+            #[must_use]
             pub fn $name(grants: &mut [u8], loans: &mut [u32] $(, $argument: u32)*) -> u32 {
                 unsafe {
                     ffi::$call(
@@ -182,7 +268,8 @@ pub mod chains {
         recall, rights_chains_recall, by, to, on, right, depth
     );
 
-    /// check (who, on, right), with a buffer of 8 bytes for the chain.
+    /// check (who, on, right), with a buffer of [`CHAIN_PERSONS`](crate::CHAIN_PERSONS) bytes for
+    /// the chain.
     pub fn check(
         grants: &[u8],
         loans: &[u32],
@@ -212,19 +299,10 @@ pub mod chains {
     }
 
     /// 0 in order, 1 wrong length, 2 not in order.
-    pub fn in_order(grants: &[u8], loans: &[u32]) -> u32 {
+    #[must_use]
+    pub fn inspect(grants: &[u8], loans: &[u32]) -> u32 {
         unsafe {
-            ffi::rights_chains_in_order(grants.as_ptr(), grants.len(), loans.as_ptr(), loans.len())
+            ffi::rights_chains_inspect(grants.as_ptr(), grants.len(), loans.as_ptr(), loans.len())
         }
     }
-}
-
-/// The engine's version, 10,000 · major + 100 · minor + patch.
-pub fn version() -> u32 {
-    unsafe { crate::ffi::rights_version() }
-}
-
-/// The date of the images' layout, year · 10,000 + month · 100 + day.
-pub fn layout_date() -> u32 {
-    unsafe { crate::ffi::rights_layout_date() }
 }

@@ -2,12 +2,13 @@
 //!
 //! [`Lists`], [`Rows`] and [`Chains`] own the images of a unit and pass bytes and numbers to the
 //! engine's C interface; nothing here decides an answer. [`lent`] has the same calls over slices
-//! of any length, [`ffi`] the raw declarations. Sizes, limits and numbers are those of
-//! include/rights.h.
+//! of any length, [`ffi`] the raw declarations. Sizes, limits, numbers and texts are those of
+//! include/rights.h. Call [`archive_matches_header`] once at start-up.
 //!
 //! ```
 //! use rights::{Chains, Depth, Item, Refusal, Right};
 //!
+//! assert!(rights::archive_matches_header());
 //! let mut unit = Chains::fresh();
 //! unit.create(Item(0), Item(3))?;
 //! unit.allow(Item(0), Item(3), Item(3), Right(1), Depth(2))?;
@@ -15,30 +16,27 @@
 //! assert_eq!(unit.create(Item(0), Item(3)), Err(Refusal::AlreadyLive));
 //! # Ok::<(), Refusal>(())
 //! ```
+//!
+//! The crate needs neither a heap nor an operating system. The feature `alloc`, off by default,
+//! adds chain units on the heap.
 #![no_std]
 #![deny(missing_docs, unsafe_code)]
 
+#[cfg(feature = "alloc")]
+extern crate alloc;
+
 mod chains;
+mod engine;
 pub mod ffi;
 mod flat;
 pub mod lent;
+mod numbers;
 mod refusal;
 
 pub use chains::{Chains, CheckAnswer};
+pub use engine::{archive_matches_header, layout_date, version};
 pub use flat::{Lists, Rows};
-pub use lent::{layout_date, version};
-pub use refusal::Refusal;
+pub use numbers::{Depth, Item, Right};
+pub use refusal::{answer, NotARefusal, Refusal};
 
 include!(concat!(env!("OUT_DIR"), "/constants.rs"));
-
-/// An item number: a badge or a drawer. The engine refuses one above 63.
-#[derive(Clone, Copy, Debug, PartialEq, Eq, PartialOrd, Ord, Hash)]
-pub struct Item(pub u32);
-
-/// A right number; right 0 is edit. The engine refuses one above 7.
-#[derive(Clone, Copy, Debug, PartialEq, Eq, PartialOrd, Ord, Hash)]
-pub struct Right(pub u32);
-
-/// A depth. The engine refuses one above 7.
-#[derive(Clone, Copy, Debug, PartialEq, Eq, PartialOrd, Ord, Hash)]
-pub struct Depth(pub u32);

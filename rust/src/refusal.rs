@@ -1,84 +1,121 @@
 use core::fmt;
 
-use crate::{
-    ALREADY_LIVE, BY_DEAD, DONE, EDIT_RIGHT, FULL, NAMED_DEAD, NOT_IN_ORDER, NO_EDIT, OUT_OF_RANGE,
-    ROOT_ITEM, WRONG_LENGTH,
-};
+// The macro `text!`, which has the texts of the header's `rights_text`.
+include!(concat!(env!("OUT_DIR"), "/texts.rs"));
 
-/// Why a call was refused. A refused call has changed nothing.
-///
-/// ```
-/// use rights::{Item, Lists, Refusal};
-///
-/// let mut lists = Lists::fresh();
-/// assert_eq!(lists.create(Item(0), Item(64)), Err(Refusal::OutOfRange));
-/// assert_eq!(Refusal::OutOfRange.number(), 3);
-/// ```
-#[derive(Clone, Copy, Debug, PartialEq, Eq, Hash)]
-#[repr(u32)]
-pub enum Refusal {
-    /// A lent buffer has a wrong length.
-    WrongLength = WRONG_LENGTH,
-    /// A lent image to be read is not in order.
-    NotInOrder = NOT_IN_ORDER,
-    /// An item above 63, right above 7 or depth above 7.
-    OutOfRange = OUT_OF_RANGE,
-    /// `by` does not live.
-    ByDead = BY_DEAD,
-    /// Any command but create: `on`, or its `to`, does not live.
-    NamedDead = NAMED_DEAD,
-    /// create: `on` lives.
-    AlreadyLive = ALREADY_LIVE,
-    /// delete: `on` is item 0.
-    RootItem = ROOT_ITEM,
-    /// allow, withdraw, delete: `by` has no edit grant on the item.
-    NoEdit = NO_EDIT,
-    /// lend: right 0.
-    EditRight = EDIT_RIGHT,
-    /// lend: 1,024 loans stand and this is not one of them.
-    Full = FULL,
+/// The refusals by name and number of the header, rising.
+macro_rules! refusals {
+    ($($name:ident = $number:ident,)*) => {
+        /// Why a call was refused. A refused call has changed nothing.
+        ///
+        /// ```
+        /// use rights::{Item, Lists, Refusal};
+        ///
+        /// let refusal = Lists::fresh().create(Item(0), Item(64)).unwrap_err();
+        /// assert_eq!(refusal, Refusal::OutOfRange);
+        /// assert_eq!(refusal.number(), 3);
+        /// assert_eq!(refusal.text(), "an item, a right or a depth is above its limit");
+        /// assert_eq!(Refusal::try_from(3), Ok(refusal));
+        /// ```
+        #[derive(Clone, Copy, Debug, PartialEq, Eq, Hash)]
+        #[non_exhaustive]
+        pub enum Refusal {
+            $(
+                #[doc = concat!("`RIGHTS_", stringify!($number), "`: ", text!($number), ".")]
+                $name,
+            )*
+            /// A number that this crate has no name for, of an engine other than the header's.
+            Unknown(u32),
+        }
+
+        impl Refusal {
+            /// Every refusal that has a name, by rising number.
+            pub const ALL: &'static [Refusal] = &[$(Refusal::$name),*];
+
+            /// The engine's number.
+            #[must_use]
+            pub const fn number(self) -> u32 {
+                match self {
+                    $(Refusal::$name => crate::$number,)*
+                    Refusal::Unknown(number) => number,
+                }
+            }
+
+            /// What the header's `rights_text` says of the number.
+            #[must_use]
+            pub const fn text(self) -> &'static str {
+                match self {
+                    $(Refusal::$name => text!($number),)*
+                    Refusal::Unknown(_) => text!(default),
+                }
+            }
+        }
+    };
 }
 
-impl Refusal {
-    /// Every refusal, by rising number.
-    pub const ALL: [Refusal; 10] = [
-        Refusal::WrongLength,
-        Refusal::NotInOrder,
-        Refusal::OutOfRange,
-        Refusal::ByDead,
-        Refusal::NamedDead,
-        Refusal::AlreadyLive,
-        Refusal::RootItem,
-        Refusal::NoEdit,
-        Refusal::EditRight,
-        Refusal::Full,
-    ];
-
-    /// Document 01's number, 1 to 10.
-    pub fn number(self) -> u32 {
-        self as u32
-    }
+refusals! {
+    WrongLength = WRONG_LENGTH,
+    NotInOrder = NOT_IN_ORDER,
+    OutOfRange = OUT_OF_RANGE,
+    ByDead = BY_DEAD,
+    NamedDead = NAMED_DEAD,
+    AlreadyLive = ALREADY_LIVE,
+    RootItem = ROOT_ITEM,
+    NoEdit = NO_EDIT,
+    EditRight = EDIT_RIGHT,
+    Full = FULL,
+    Malformed = MALFORMED,
 }
 
 impl fmt::Display for Refusal {
     fn fmt(&self, f: &mut fmt::Formatter<'_>) -> fmt::Result {
-        write!(f, "refused with {}: {:?}", self.number(), self)
+        write!(f, "refused with {}: {}", self.number(), self.text())
     }
 }
 
 impl core::error::Error for Refusal {}
 
-/// The engine's number as a result. The engine gives no number above 10.
-pub(crate) fn answer(number: u32) -> Result<(), Refusal> {
-    if number == DONE {
-        return Ok(());
+/// A number that names no refusal: 0, which is done, or one that this crate has no name for.
+///
+/// ```
+/// use rights::{NotARefusal, Refusal};
+///
+/// assert_eq!(Refusal::try_from(0), Err(NotARefusal(0)));
+/// assert_eq!(Refusal::try_from(1_000), Err(NotARefusal(1_000)));
+/// ```
+#[derive(Clone, Copy, Debug, PartialEq, Eq, Hash)]
+pub struct NotARefusal(pub u32);
+
+impl fmt::Display for NotARefusal {
+    fn fmt(&self, f: &mut fmt::Formatter<'_>) -> fmt::Result {
+        write!(f, "{} is the number of no refusal", self.0)
     }
-    let refusal = Refusal::ALL.into_iter().find(|refusal| refusal.number() == number);
-    Err(refusal.expect("a number of the interface"))
 }
 
-/// For calls that the engine refuses only for a wrong length or an image out of order, made with
-/// the image of a value, which has neither.
-pub(crate) fn done(number: u32) {
-    assert_eq!(number, DONE, "an owned image is refused");
+impl core::error::Error for NotARefusal {}
+
+impl TryFrom<u32> for Refusal {
+    type Error = NotARefusal;
+
+    fn try_from(number: u32) -> Result<Self, NotARefusal> {
+        let named = Refusal::ALL.iter().find(|refusal| refusal.number() == number);
+        named.copied().ok_or(NotARefusal(number))
+    }
+}
+
+/// The number of a call as a result, for the functions of [`lent`](crate::lent).
+///
+/// ```
+/// use rights::{answer, lent, Refusal};
+///
+/// let mut image = [0; rights::LISTS_WORDS];
+/// answer(lent::lists::fresh(&mut image))?;
+/// assert_eq!(answer(lent::lists::create(&mut image, 0, 64)), Err(Refusal::OutOfRange));
+/// # Ok::<(), Refusal>(())
+/// ```
+pub fn answer(number: u32) -> Result<(), Refusal> {
+    if number == crate::DONE {
+        return Ok(());
+    }
+    Err(Refusal::try_from(number).unwrap_or(Refusal::Unknown(number)))
 }

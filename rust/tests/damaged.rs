@@ -1,239 +1,22 @@
-//! Every call on damaged images: the number, and what each lent byte holds after.
+//! Every call on damaged images: the number, and what each lent byte holds after. Every buffer lies
+//! at a guard page, in turn before it and after it.
 
 mod damage;
 mod engine;
+mod every_call;
 mod generator;
+mod guarded;
 mod judge;
 mod model;
 
 use std::collections::BTreeMap;
 
-use damage::{grant_damages, resize, wrong_length, LOAN_DAMAGES};
-use engine::{check_chains, give_chains, Flat};
+use damage::{grant_damages, resize, LOAN_DAMAGES};
+use engine::Flat;
+use every_call::{ChainImages, FlatImage};
 use generator::{seed, Bias, Generator, Random, Trace, BIASES};
-use judge::{flat_answer, judge_chain};
-use model::{
-    chain_journal, flat_journal, image_of, loans_image, Cell, Command, GrantLayout, Journal,
-    Layout, ListLayout, RowLayout,
-};
-use rights::lent;
-use rights::lent::chains::Checked;
-
-/// The journal that the lent images say, or the number that refuses them.
-type State = Result<Journal, u32>;
-
-/// A lent buffer between cells that nobody may write.
-struct Lent<C> {
-    cells: Vec<C>,
-}
-
-const MARGIN: usize = 16;
-
-impl<C: Cell> Lent<C> {
-    fn new(content: &[C]) -> Self {
-        Self { cells: Self::surrounded(content) }
-    }
-
-    fn surrounded(content: &[C]) -> Vec<C> {
-        let mut margin = [C::default(); MARGIN];
-        margin.iter_mut().for_each(|cell| cell.flip(2));
-        [&margin, content, &margin].concat()
-    }
-
-    fn slice(&mut self) -> &mut [C] {
-        let end = self.cells.len() - MARGIN;
-        &mut self.cells[MARGIN..end]
-    }
-
-    /// The buffer holds just this, and nothing beside it was written.
-    fn assert_holds(&self, content: &[C], what: &str) {
-        assert!(self.cells == Self::surrounded(content), "bytes after {what}");
-    }
-}
-
-fn number_of(state: &State) -> u32 {
-    state.as_ref().err().copied().unwrap_or(0)
-}
-
-/// The number of a command and the journal after it, none where nothing may change.
-fn after(state: &State, command: Command) -> (u32, Option<Journal>) {
-    match state {
-        Err(number) => (*number, None),
-        Ok(journal) => {
-            let mut journal = journal.clone();
-            let number = journal.give(command);
-            (number, Some(journal).filter(|_| number == 0))
-        }
-    }
-}
-
-fn flat_state<L: Layout>(image: &[L::Cell]) -> State {
-    if image.len() != L::CELLS {
-        return Err(1);
-    }
-    flat_journal::<L>(image).ok_or(2)
-}
-
-fn chain_state(grants: &[u8], loans: &[u32]) -> State {
-    if grants.len() != GrantLayout::CELLS || loans.len() != 1025 {
-        return Err(1);
-    }
-    chain_journal(grants, loans).ok_or(2)
-}
-
-/// Every call of a unit without depth on one image.
-fn try_flat<U: Flat>(image: &[U::Cell], generator: &mut Generator, base: &Journal) -> u32 {
-    let state = flat_state::<U>(image);
-    for kind in 0..4 {
-        flat_command::<U>(image, &state, generator.of_kind(kind, base));
-    }
-    flat_reads::<U>(image, &state, generator.question(base));
-    flat_conversion::<U>(image, &state, U::Other::CELLS);
-    flat_conversion::<U>(image, &state, wrong_length(&mut generator.random, U::Other::CELLS));
-    flat_fresh::<U>(image);
-    number_of(&state)
-}
-
-fn flat_command<U: Flat>(image: &[U::Cell], state: &State, command: Command) {
-    let (number, journal) = after(state, command);
-    let mut lent = Lent::new(image);
-    assert_eq!(U::give(lent.slice(), command), Some(number), "{}, {command:?}", U::NAME);
-    let expected = journal.map_or_else(|| image.to_vec(), |journal| image_of::<U>(&journal));
-    lent.assert_holds(&expected, U::NAME);
-}
-
-/// In order, subjects and check.
-fn flat_reads<U: Flat>(image: &[U::Cell], state: &State, question: (u32, u32, u32)) {
-    let number = number_of(state);
-    let mut lent = Lent::new(image);
-    assert_eq!(U::in_order(lent.slice()), number, "in order, {}", U::NAME);
-    let subjects = state.as_ref().map_or(0, Journal::subjects);
-    assert_eq!(U::subjects(lent.slice()), (number, subjects), "subjects, {}", U::NAME);
-    let answer = match state {
-        Err(number) => (*number, 0),
-        Ok(journal) => flat_answer(journal, question),
-    };
-    assert_eq!(U::check(lent.slice(), question), answer, "check, {}", U::NAME);
-    lent.assert_holds(image, U::NAME);
-}
-
-/// The conversion into a buffer of some length that held something else.
-fn flat_conversion<U: Flat>(image: &[U::Cell], state: &State, length: usize) {
-    let wrong = length != U::Other::CELLS;
-    let number = if wrong { 1 } else { number_of(state) };
-    let mut held = vec![<U::Other as Layout>::Cell::default(); length];
-    held.iter_mut().for_each(|cell| cell.flip(5));
-    let (mut from, mut into) = (Lent::new(image), Lent::new(&held));
-    assert_eq!(U::convert(from.slice(), into.slice()), number, "conversion of {}", U::NAME);
-    from.assert_holds(image, U::NAME);
-    match state {
-        Ok(journal) if !wrong => into.assert_holds(&image_of::<U::Other>(journal), "conversion"),
-        _ => into.assert_holds(&held, "a refused conversion"),
-    }
-}
-
-fn flat_fresh<U: Flat>(image: &[U::Cell]) {
-    let mut lent = Lent::new(image);
-    let number = U::fresh(lent.slice());
-    if image.len() == U::CELLS {
-        assert_eq!(number, 0, "fresh {}", U::NAME);
-        lent.assert_holds(&image_of::<U>(&Journal::fresh()), "fresh");
-    } else {
-        assert_eq!(number, 1, "fresh {}", U::NAME);
-        lent.assert_holds(image, "a refused fresh");
-    }
-}
-
-/// Every call of the chain unit on one pair of images.
-fn try_chains(grants: &[u8], loans: &[u32], generator: &mut Generator, base: &Journal) -> u32 {
-    let state = chain_state(grants, loans);
-    for kind in 0..6 {
-        chain_command(grants, loans, &state, generator.of_kind(kind, base));
-    }
-    let question = generator.question(base);
-    chain_check(grants, loans, &state, question);
-    let length = wrong_length(&mut generator.random, 8);
-    chain_check_refused(grants, loans, question, &vec![9; length], 1);
-    chain_fresh(grants, loans);
-    chain_in_order(grants, loans, number_of(&state));
-    number_of(&state)
-}
-
-fn chain_in_order(grants: &[u8], loans: &[u32], number: u32) {
-    let (mut lent_grants, mut lent_loans) = (Lent::new(grants), Lent::new(loans));
-    let given = lent::chains::in_order(lent_grants.slice(), lent_loans.slice());
-    assert_eq!(given, number, "in order, chains");
-    lent_grants.assert_holds(grants, "in order");
-    lent_loans.assert_holds(loans, "in order");
-}
-
-fn chain_command(grants: &[u8], loans: &[u32], state: &State, command: Command) {
-    let (number, journal) = after(state, command);
-    let (mut lent_grants, mut lent_loans) = (Lent::new(grants), Lent::new(loans));
-    let given = give_chains(lent_grants.slice(), lent_loans.slice(), command);
-    assert_eq!(given, number, "chains, {command:?}");
-    match journal {
-        Some(journal) => {
-            lent_grants.assert_holds(&image_of::<GrantLayout>(&journal), "a command");
-            lent_loans.assert_holds(&loans_image(&journal), "a command");
-        }
-        None => {
-            lent_grants.assert_holds(grants, "a refused command");
-            lent_loans.assert_holds(loans, "a refused command");
-        }
-    }
-}
-
-fn chain_check(grants: &[u8], loans: &[u32], state: &State, question: (u32, u32, u32)) {
-    let before = [7; 8];
-    let journal = match state {
-        Err(number) => return chain_check_refused(grants, loans, question, &before, *number),
-        Ok(journal) => journal,
-    };
-    let (mut lent_grants, mut lent_loans) = (Lent::new(grants), Lent::new(loans));
-    let mut chain = Lent::new(&before);
-    let checked = check_chains(lent_grants.slice(), lent_loans.slice(), question, chain.slice());
-    let written: [u8; 8] = chain.slice().try_into().expect("8 bytes");
-    let (who, on, right) = question;
-    let known = who < 64 && on < 64 && right < 8;
-    let best = if known { journal.best(on, right)[who as usize] } else { None };
-    judge_chain(journal, question, best, checked, before, written);
-    lent_grants.assert_holds(grants, "a check");
-    lent_loans.assert_holds(loans, "a check");
-    chain.assert_holds(&written, "a check");
-}
-
-/// A check that is refused for its buffers: no byte changes, and depth and persons are 0.
-fn chain_check_refused(
-    grants: &[u8],
-    loans: &[u32],
-    question: (u32, u32, u32),
-    held: &[u8],
-    number: u32,
-) {
-    let (mut lent_grants, mut lent_loans) = (Lent::new(grants), Lent::new(loans));
-    let mut chain = Lent::new(held);
-    let checked = check_chains(lent_grants.slice(), lent_loans.slice(), question, chain.slice());
-    assert_eq!(checked, Checked { number, depth: 0, persons: 0 }, "check, chains");
-    lent_grants.assert_holds(grants, "a refused check");
-    lent_loans.assert_holds(loans, "a refused check");
-    chain.assert_holds(held, "a refused check");
-}
-
-fn chain_fresh(grants: &[u8], loans: &[u32]) {
-    let (mut lent_grants, mut lent_loans) = (Lent::new(grants), Lent::new(loans));
-    let number = lent::chains::fresh(lent_grants.slice(), lent_loans.slice());
-    if grants.len() == GrantLayout::CELLS && loans.len() == 1025 {
-        let journal = Journal::fresh();
-        assert_eq!(number, 0, "fresh chains");
-        lent_grants.assert_holds(&image_of::<GrantLayout>(&journal), "fresh");
-        lent_loans.assert_holds(&loans_image(&journal), "fresh");
-    } else {
-        assert_eq!(number, 1, "fresh chains");
-        lent_grants.assert_holds(grants, "a refused fresh");
-        lent_loans.assert_holds(loans, "a refused fresh");
-    }
-}
+use guarded::{Side, SIDES};
+use model::{image_of, loans_image, Cell, GrantLayout, Journal, Layout, ListLayout, RowLayout};
 
 /// Damaged images by unit and damage, and of them those with numbers 0, 1 and 2.
 #[derive(Default)]
@@ -269,64 +52,97 @@ impl Counts {
     }
 }
 
-/// Damaged images of one state of the journal.
-fn damage_state(generator: &mut Generator, journal: &Journal, counts: &mut Counts) {
-    damage_flat::<ListLayout>(generator, journal, counts);
-    damage_flat::<RowLayout>(generator, journal, counts);
-    damage_chain_grants(generator, journal, counts);
-    damage_chain_loans(generator, journal, counts);
-    if generator.random.percent(10) {
-        root_unnamed(generator, journal, counts);
+/// A state, the commands and questions that are tried on images of it, and where those lie.
+struct Trial {
+    generator: Generator,
+    journal: Journal,
+    side: Side,
+}
+
+impl Trial {
+    fn new(seed: u64, bias: Bias) -> Self {
+        let (generator, journal) = (Generator::new(seed, bias), Journal::fresh());
+        Self { generator, journal, side: Side::Front }
     }
-}
 
-/// Images in which nothing is wrong but that item 0 is dead: no grant and no loan names it.
-fn root_unnamed(generator: &mut Generator, journal: &Journal, counts: &mut Counts) {
-    let damage = "root item dead and not named";
-    let mut rootless = journal.clone();
-    rootless.delete(0);
-    let lists = image_of::<ListLayout>(&rootless);
-    counts.add("lists", damage, try_flat::<ListLayout>(&lists, generator, journal));
-    let rows = image_of::<RowLayout>(&rootless);
-    counts.add("rows", damage, try_flat::<RowLayout>(&rows, generator, journal));
-    let (grants, loans) = (image_of::<GrantLayout>(&rootless), loans_image(&rootless));
-    counts.add("grants of chains", damage, try_chains(&grants, &loans, generator, journal));
-}
+    /// From now on the guard pages are on the other side.
+    fn turned(&mut self) -> &mut Self {
+        self.side = if self.side == Side::Front { Side::Back } else { Side::Front };
+        self
+    }
 
-fn damage_flat<U: Flat>(generator: &mut Generator, journal: &Journal, counts: &mut Counts) {
-    let (name, apply) = generator.random.pick(&grant_damages::<U>());
-    let mut image = image_of::<U>(journal);
-    apply(&mut generator.random, journal, &mut image);
-    counts.add(U::NAME, name, try_flat::<U>(&image, generator, journal));
-}
+    /// The next command of the list, given to the journal.
+    fn command(&mut self, step: u32) {
+        let command = self.generator.command(&self.journal, step);
+        self.journal.give(command);
+    }
 
-fn damage_chain_grants(generator: &mut Generator, journal: &Journal, counts: &mut Counts) {
-    let (name, apply) = generator.random.pick(&grant_damages::<GrantLayout>());
-    let mut grants = image_of::<GrantLayout>(journal);
-    apply(&mut generator.random, journal, &mut grants);
-    let number = try_chains(&grants, &loans_image(journal), generator, journal);
-    counts.add("grants of chains", name, number);
-}
+    /// Every call on one image; the number that it is refused with.
+    fn flat<U: Flat>(&mut self, cells: &[U::Cell]) -> u32 {
+        let image = FlatImage::<U> { cells, side: self.side };
+        image.try_all(&mut self.generator, &self.journal)
+    }
 
-fn damage_chain_loans(generator: &mut Generator, journal: &Journal, counts: &mut Counts) {
-    let (name, apply) = generator.random.pick(&LOAN_DAMAGES);
-    let mut loans = loans_image(journal);
-    apply(&mut generator.random, journal, &mut loans);
-    let number = try_chains(&image_of::<GrantLayout>(journal), &loans, generator, journal);
-    counts.add("loans of chains", name, number);
+    fn chains(&mut self, grants: &[u8], loans: &[u32]) -> u32 {
+        let images = ChainImages { grants, loans, side: self.side };
+        images.try_all(&mut self.generator, &self.journal)
+    }
+
+    /// Damaged images of the state.
+    fn damage(&mut self, counts: &mut Counts) {
+        self.turned().damage_flat::<ListLayout>(counts);
+        self.damage_flat::<RowLayout>(counts);
+        self.damage_grants(counts);
+        self.damage_loans(counts);
+        if self.generator.random.percent(10) {
+            self.root_unnamed(counts);
+        }
+    }
+
+    /// Images in which nothing is wrong but that item 0 is dead: no grant and no loan names it.
+    fn root_unnamed(&mut self, counts: &mut Counts) {
+        let damage = "root item dead and not named";
+        let mut rootless = self.journal.clone();
+        rootless.delete(0);
+        counts.add("lists", damage, self.flat::<ListLayout>(&image_of::<ListLayout>(&rootless)));
+        counts.add("rows", damage, self.flat::<RowLayout>(&image_of::<RowLayout>(&rootless)));
+        let (grants, loans) = (image_of::<GrantLayout>(&rootless), loans_image(&rootless));
+        counts.add("grants of chains", damage, self.chains(&grants, &loans));
+    }
+
+    fn damage_flat<U: Flat>(&mut self, counts: &mut Counts) {
+        let (name, apply) = self.generator.random.pick(&grant_damages::<U>());
+        let mut image = image_of::<U>(&self.journal);
+        apply(&mut self.generator.random, &self.journal, &mut image);
+        counts.add(U::NAME, name, self.flat::<U>(&image));
+    }
+
+    fn damage_grants(&mut self, counts: &mut Counts) {
+        let (name, apply) = self.generator.random.pick(&grant_damages::<GrantLayout>());
+        let mut grants = image_of::<GrantLayout>(&self.journal);
+        apply(&mut self.generator.random, &self.journal, &mut grants);
+        let loans = loans_image(&self.journal);
+        counts.add("grants of chains", name, self.chains(&grants, &loans));
+    }
+
+    fn damage_loans(&mut self, counts: &mut Counts) {
+        let (name, apply) = self.generator.random.pick(&LOAN_DAMAGES);
+        let mut loans = loans_image(&self.journal);
+        apply(&mut self.generator.random, &self.journal, &mut loans);
+        let grants = image_of::<GrantLayout>(&self.journal);
+        counts.add("loans of chains", name, self.chains(&grants, &loans));
+    }
 }
 
 /// Damaged images of the states that one list of commands reaches.
 fn damage_list(seed: u64, bias: Bias, counts: &mut Counts) {
-    let mut generator = Generator::new(seed, bias);
-    let mut journal = Journal::fresh();
+    let mut trial = Trial::new(seed, bias);
     let mut trace = Trace { seed, bias: bias.name, step: 0 };
     for step in 0..bias.length {
         trace.step = step;
-        let command = generator.command(&journal, step);
-        journal.give(command);
+        trial.command(step);
         if step % 10 == 9 {
-            damage_state(&mut generator, &journal, counts);
+            trial.damage(counts);
         }
     }
 }
@@ -346,15 +162,11 @@ fn damage_images(images: u64) -> Counts {
 }
 
 /// A state with grants and loans and with dead items.
-fn some_state() -> (Generator, Journal) {
+fn some_state() -> Trial {
     let bias = BIASES[1];
-    let mut generator = Generator::new(seed(), bias);
-    let mut journal = Journal::fresh();
-    for step in 0..bias.length / 4 {
-        let command = generator.command(&journal, step);
-        journal.give(command);
-    }
-    (generator, journal)
+    let mut trial = Trial::new(seed(), bias);
+    (0..bias.length / 4).for_each(|step| trial.command(step));
+    trial
 }
 
 /// Calls back with the image once for each of its bits, flipped.
@@ -383,12 +195,12 @@ fn resized<C: Cell>(random: &mut Random, image: &[C]) -> Vec<C> {
 /// Wrong lengths of the chain unit's images, alone, together, and beside an image out of order.
 #[test]
 fn lengths() {
-    let (mut generator, journal) = some_state();
-    let (grants, loans) = (image_of::<GrantLayout>(&journal), loans_image(&journal));
+    let mut trial = some_state();
+    let (grants, loans) = (image_of::<GrantLayout>(&trial.journal), loans_image(&trial.journal));
     let (no_grants, no_order) = (vec![0; GrantLayout::CELLS], vec![2; 1025]);
     for _ in 0..40 {
-        let wrong_grants = resized(&mut generator.random, &grants);
-        let wrong_loans = resized(&mut generator.random, &loans);
+        let random = &mut trial.turned().generator.random;
+        let (wrong_grants, wrong_loans) = (resized(random, &grants), resized(random, &loans));
         let pairs = [
             (&wrong_grants, &loans),
             (&wrong_grants, &no_order),
@@ -397,7 +209,61 @@ fn lengths() {
             (&no_grants, &wrong_loans),
         ];
         for (grants, loans) in pairs {
-            assert_eq!(try_chains(grants, loans, &mut generator, &journal), 1);
+            assert_eq!(trial.chains(grants, loans), 1);
+        }
+    }
+}
+
+/// The image in lengths around the right one, 0 and 1 among them; what is added is 0.
+fn lengths_of<C: Cell>(image: &[C]) -> Vec<Vec<C>> {
+    let right = image.len();
+    let lengths = [0, 1, right - 1, right, right + 1, 2 * right];
+    let resized = |length| {
+        let mut image = image.to_vec();
+        image.resize(length, C::default());
+        image
+    };
+    lengths.map(resized).into()
+}
+
+/// Every call on every length, at a guard page on either side.
+#[test]
+fn lengths_on_both_sides() {
+    let mut trial = some_state();
+    let lists = lengths_of(&image_of::<ListLayout>(&trial.journal));
+    let rows = lengths_of(&image_of::<RowLayout>(&trial.journal));
+    let grants = lengths_of(&image_of::<GrantLayout>(&trial.journal));
+    let loans = lengths_of(&loans_image(&trial.journal));
+    for side in SIDES {
+        trial.side = side;
+        for cells in &lists {
+            assert_eq!(trial.flat::<ListLayout>(cells), u32::from(cells.len() != 513));
+        }
+        for cells in &rows {
+            assert_eq!(trial.flat::<RowLayout>(cells), u32::from(cells.len() != 4104));
+        }
+        for (grants, loans) in grants.iter().flat_map(|g| loans.iter().map(move |l| (g, l))) {
+            let wrong = (grants.len(), loans.len()) != (32_776, 1025);
+            assert_eq!(trial.chains(grants, loans), u32::from(wrong));
+        }
+    }
+}
+
+/// Right images beside another buffer, of the conversions and of the check, in every length.
+#[test]
+fn other_lengths_on_both_sides() {
+    let Trial { journal, .. } = some_state();
+    let (lists, rows) = (image_of::<ListLayout>(&journal), image_of::<RowLayout>(&journal));
+    let (grants, loans) = (image_of::<GrantLayout>(&journal), loans_image(&journal));
+    for side in SIDES {
+        for target in lengths_of(&rows) {
+            FlatImage::<ListLayout> { cells: &lists, side }.try_target(target.len());
+        }
+        for target in lengths_of(&lists) {
+            FlatImage::<RowLayout> { cells: &rows, side }.try_target(target.len());
+        }
+        for length in [0, 1, 7, 9, 16] {
+            ChainImages { grants: &grants, loans: &loans, side }.try_chain_buffer(length);
         }
     }
 }
@@ -414,16 +280,16 @@ fn long() {
 #[test]
 #[ignore = "takes minutes"]
 fn long_every_bit() {
-    let (mut generator, journal) = some_state();
+    let mut trial = some_state();
     let mut numbers = [0; 3];
     let mut count = |number: u32| numbers[number as usize] += 1;
-    let lists = image_of::<ListLayout>(&journal);
-    each_bit(&lists, |image| count(try_flat::<ListLayout>(image, &mut generator, &journal)));
-    let rows = image_of::<RowLayout>(&journal);
-    each_bit(&rows, |image| count(try_flat::<RowLayout>(image, &mut generator, &journal)));
-    let (grants, loans) = (image_of::<GrantLayout>(&journal), loans_image(&journal));
-    each_bit(&grants, |image| count(try_chains(image, &loans, &mut generator, &journal)));
-    each_bit(&loans, |image| count(try_chains(&grants, image, &mut generator, &journal)));
+    let (lists, rows) =
+        (image_of::<ListLayout>(&trial.journal), image_of::<RowLayout>(&trial.journal));
+    let (grants, loans) = (image_of::<GrantLayout>(&trial.journal), loans_image(&trial.journal));
+    each_bit(&lists, |image| count(trial.turned().flat::<ListLayout>(image)));
+    each_bit(&rows, |image| count(trial.turned().flat::<RowLayout>(image)));
+    each_bit(&grants, |image| count(trial.turned().chains(image, &loans)));
+    each_bit(&loans, |image| count(trial.turned().chains(&grants, image)));
     println!("single bits: numbers {numbers:?}");
     assert_eq!(numbers[1], 0);
     assert!(numbers[0] > 0 && numbers[2] > 0);

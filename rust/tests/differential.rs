@@ -180,7 +180,7 @@ impl Run {
         let images = &self.images;
         whole_flat::<ListLayout>(&images.lists, &self.expected.rows, &self.journal);
         whole_flat::<RowLayout>(&images.rows, &self.expected.lists, &self.journal);
-        assert_eq!(lent::chains::in_order(&images.grants, &images.loans), 0);
+        assert_eq!(lent::chains::inspect(&images.grants, &images.loans), 0);
         images.compare(&self.expected);
     }
 
@@ -198,7 +198,7 @@ impl Run {
 }
 
 fn whole_flat<U: Flat>(image: &[U::Cell], other: &[<U::Other as Layout>::Cell], journal: &Journal) {
-    assert_eq!(U::in_order(image), 0, "{}", U::NAME);
+    assert_eq!(U::inspect(image), 0, "{}", U::NAME);
     assert_eq!(U::subjects(image), (0, journal.subjects()), "subjects of {}", U::NAME);
     let mut converted = other.to_vec();
     converted.reverse();

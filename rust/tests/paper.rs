@@ -1,4 +1,5 @@
-//! The model held against the paper's own figures and examples, and against chains walked one by one.
+//! The model held against the paper's own figures and examples, and against chains walked one by
+//! one.
 
 mod generator;
 mod model;
@@ -100,17 +101,7 @@ fn constants() {
     assert_eq!((rights::LISTS_WORDS, rights::ROWS_BYTES), (513, 4104));
     assert_eq!((rights::GRANTS_BYTES, rights::LOANS_WORDS), (32_776, 1025));
     assert_eq!((rights::LOANS_MAX, rights::CHAIN_PERSONS, rights::NO_PERSON), (1024, 8, 255));
-    let numbers: Vec<u32> = rights::Refusal::ALL.iter().map(|refusal| refusal.number()).collect();
-    assert_eq!(numbers, (1..=10).collect::<Vec<u32>>());
     assert_eq!((rights::DONE, rights::MALFORMED), (0, 11));
-}
-
-/// The package's version is the engine's.
-#[test]
-fn version() {
-    let parts = env!("CARGO_PKG_VERSION").split('.').map(|part| part.parse::<u32>());
-    let number = parts.fold(0, |sum, part| 100 * sum + part.expect("a number"));
-    assert_eq!(rights::version(), number);
 }
 
 /// Every chain there is, walked one by one: its ending and those of all that prolong it.

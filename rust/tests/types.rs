@@ -1,122 +1,180 @@
-//! The types that own their images, on the handover examples of document 01.
+//! The types that own their images: every method, its arguments all different, by what it answers
+//! and by every byte of the images after it, which are compared with those of the paper's formulas.
 
-use rights::{Chains, Depth, Item, Lists, Refusal, Right, Rows};
+mod model;
 
-const ON: Item = Item(9);
-const RIGHT: Right = Right(1);
+use model::commands::{allow, create, delete, lend, recall, withdraw};
+use model::{image_of, loans_image, Command, GrantLayout, Journal, ListLayout, RowLayout};
+use rights::{answer, lent, Chains, Depth, Item, Lists, Refusal, Right, Rows};
 
-/// What every handover example starts from.
-fn base() -> Chains {
-    let mut unit = Chains::fresh();
-    for on in [3, 4, 5, 9] {
-        assert_eq!(unit.create(Item(0), Item(on)), Ok(()));
-    }
-    assert_eq!(unit.allow(Item(0), Item(3), ON, RIGHT, Depth(2)), Ok(()));
-    assert_eq!(unit.lend(Item(3), Item(4), ON, RIGHT, Depth(1)), Ok(()));
-    assert_eq!(unit.lend(Item(4), Item(5), ON, RIGHT, Depth(0)), Ok(()));
-    unit
+/// A type that owns its images.
+trait Owned {
+    fn give(&mut self, command: Command) -> Result<(), Refusal>;
+
+    /// The images are those of the journal.
+    #[track_caller]
+    fn assert_says(&self, journal: &Journal);
 }
 
-/// The depth and the chain of a yes, nothing on no.
-fn check(unit: &Chains, who: u32) -> Option<(u32, Vec<u8>)> {
-    let answer = unit.check(Item(who), ON, RIGHT).expect("an answer");
-    Some((answer.depth().0, answer.persons().to_vec())).filter(|_| answer.yes())
-}
-
-#[test]
-fn chains_e1_to_e4() {
-    let mut unit = base();
-    assert_eq!(check(&unit, 5), Some((0, vec![3, 4, 5])));
-    assert_eq!(check(&unit, 4), Some((1, vec![3, 4])));
-    assert_eq!(check(&unit, 0), None);
-    assert_eq!(unit.recall(Item(3), Item(4), ON, RIGHT, Depth(0)), Ok(()));
-    assert_eq!(check(&unit, 4), Some((1, vec![3, 4])));
-}
-
-#[test]
-fn chains_e5_to_e7() {
-    let mut e5 = base();
-    assert_eq!(e5.withdraw(Item(0), Item(3), ON, RIGHT), Ok(()));
-    assert_eq!(check(&e5, 5), None);
-    assert_eq!(e5.allow(Item(0), Item(3), ON, RIGHT, Depth(1)), Ok(()));
-    assert_eq!(check(&e5, 4), Some((0, vec![3, 4])));
-    assert_eq!(check(&e5, 5), None);
-    let mut e6 = base();
-    assert_eq!(e6.lend(Item(3), Item(5), ON, RIGHT, Depth(5)), Ok(()));
-    assert_eq!(check(&e6, 5), Some((1, vec![3, 5])));
-    let mut e7 = base();
-    assert_eq!(e7.delete(Item(0), Item(4)), Ok(()));
-    assert_eq!(e7.create(Item(0), Item(4)), Ok(()));
-    assert_eq!(check(&e7, 4), None);
-}
-
-#[test]
-fn chains_e8_to_e12() {
-    let mut unit = base();
-    assert_eq!(unit.create(Item(0), Item(63)), Ok(()));
-    assert_eq!(unit.create(Item(0), Item(64)), Err(Refusal::OutOfRange));
-    assert_eq!(unit.create(Item(0), Item(3)), Err(Refusal::AlreadyLive));
-    assert_eq!(unit.delete(Item(3), Item(0)), Err(Refusal::RootItem));
-    assert_eq!(unit.allow(Item(3), Item(4), ON, RIGHT, Depth(0)), Err(Refusal::NoEdit));
-    assert_eq!(unit.create(Item(7), Item(3)), Err(Refusal::ByDead));
-    assert_eq!(unit.delete(Item(0), Item(7)), Err(Refusal::NamedDead));
-    let right_0 = unit.lend(Item(3), Item(4), ON, Right(0), Depth(0));
-    assert_eq!(right_0, Err(Refusal::EditRight));
-}
-
-/// E13: two loans stand; 1,022 more are lent, then one too many, then one that stands.
-#[test]
-fn chains_e13() {
-    let mut unit = base();
-    let persons = [0, 3, 4, 5, 9];
-    let mut lend = |n: usize| {
-        let (by, to) = (persons[n % 5], persons[n / 5 % 5]);
-        let (right, depth) = (Right(2 + n as u32 / 25 % 6), Depth(n as u32 / 150));
-        unit.lend(Item(by), Item(to), ON, right, depth)
+/// The method of each command that every unit has, and beside it the arms given.
+macro_rules! by_method {
+    ($unit:ident, $command:ident, $($loans:tt)*) => {
+        match $command {
+            Command::Create { by, on } => $unit.create(Item(by), Item(on)),
+            Command::Delete { by, on } => $unit.delete(Item(by), Item(on)),
+            Command::Allow { by, to, on, right, depth } => {
+                $unit.allow(Item(by), Item(to), Item(on), Right(right), Depth(depth))
+            }
+            Command::Withdraw { by, to, on, right } => {
+                $unit.withdraw(Item(by), Item(to), Item(on), Right(right))
+            }
+            $($loans)*
+        }
     };
-    for n in 0..1022 {
-        assert_eq!(lend(n), Ok(()), "loan {n}");
+}
+
+macro_rules! own_flat {
+    ($unit:ident, $layout:ident) => {
+        impl Owned for $unit {
+            fn give(&mut self, command: Command) -> Result<(), Refusal> {
+                by_method!(self, command, _ => unreachable!("no loans"))
+            }
+
+            fn assert_says(&self, journal: &Journal) {
+                assert!(self.image()[..] == image_of::<$layout>(journal), "image");
+            }
+        }
+    };
+}
+
+own_flat!(Lists, ListLayout);
+own_flat!(Rows, RowLayout);
+
+impl Owned for Chains {
+    fn give(&mut self, command: Command) -> Result<(), Refusal> {
+        by_method!(self, command,
+            Command::Lend { by, to, on, right, depth } => {
+                self.lend(Item(by), Item(to), Item(on), Right(right), Depth(depth))
+            }
+            Command::Recall { by, to, on, right, depth } => {
+                self.recall(Item(by), Item(to), Item(on), Right(right), Depth(depth))
+            }
+        )
     }
-    assert_eq!(lend(1022), Err(Refusal::Full));
-    assert_eq!(lend(1021), Ok(()));
-    assert_eq!(unit.loans()[0], 1024);
+
+    fn assert_says(&self, journal: &Journal) {
+        assert!(self.grants()[..] == image_of::<GrantLayout>(journal), "grants");
+        assert!(self.loans()[..] == loans_image(journal), "loans");
+    }
 }
 
-#[test]
-fn chains_stored() {
-    let unit = base();
-    let (mut grants, mut loans) = (unit.grants().to_vec(), unit.loans().to_vec());
-    assert_eq!(unit.in_order(), Ok(()));
-    assert_eq!(Chains::from_images(&grants, &loans).as_ref(), Ok(&unit));
-    assert_eq!(Chains::from_images(&grants, &loans[1..]), Err(Refusal::WrongLength));
-    loans[0] = 1;
-    assert_eq!(Chains::from_images(&grants, &loans), Err(Refusal::NotInOrder));
-    loans[0] = 2;
-    grants[0] = 0;
-    assert_eq!(Chains::from_images(&grants, &loans), Err(Refusal::NotInOrder));
-    assert_eq!(Chains::default(), Chains::fresh());
+/// Gives each command to the unit and to the journal; both answer alike, and the images are the
+/// journal's after each.
+#[track_caller]
+fn give(unit: &mut impl Owned, journal: &mut Journal, commands: &[Command]) {
+    for &command in commands {
+        let number = journal.give(command);
+        assert_eq!(unit.give(command), answer(number), "{command:?}");
+        unit.assert_says(journal);
+    }
 }
 
-/// The same commands to lists and to rows.
+/// Items 3, 5, 9 and 12 live, and 3 may edit 9; 3 grants and lends right 5 on 9 to 12.
+const ITEMS: [Command; 4] = [create(0, 3), create(0, 5), create(3, 9), create(0, 12)];
+const GRANT: Command = allow(3, 12, 9, 5, 2);
+const END_OF_GRANT: Command = withdraw(3, 12, 9, 5);
+const END_OF_ITEM: Command = delete(3, 9);
+const LOAN: Command = lend(3, 12, 9, 5, 2);
+const END_OF_LOAN: Command = recall(3, 12, 9, 5, 2);
+
+/// One refused command for each number that a command of every unit can have, from 3 on.
+const REFUSED: [(Command, Refusal); 6] = [
+    (create(0, 64), Refusal::OutOfRange),
+    (create(7, 8), Refusal::ByDead),
+    (withdraw(0, 3, 7, 1), Refusal::NamedDead),
+    (create(0, 3), Refusal::AlreadyLive),
+    (delete(3, 0), Refusal::RootItem),
+    (allow(12, 3, 9, 1, 0), Refusal::NoEdit),
+];
+
+fn refuse(unit: &mut impl Owned, journal: &mut Journal) {
+    for (command, refusal) in REFUSED {
+        assert_eq!(unit.give(command), Err(refusal), "{command:?}");
+        give(unit, journal, &[command]);
+    }
+}
+
+/// Lists and rows, which have the same methods.
 macro_rules! flat {
-    ($name:ident, $unit:ident) => {
-        #[test]
-        fn $name() {
-            let mut unit = $unit::fresh();
-            assert_eq!(unit, $unit::default());
-            assert_eq!(unit.create(Item(0), Item(3)), Ok(()));
-            assert_eq!(unit.create(Item(3), ON), Ok(()));
-            assert_eq!(unit.allow(Item(3), Item(0), ON, RIGHT, Depth(8)), Err(Refusal::OutOfRange));
-            assert_eq!(unit.allow(Item(0), Item(0), ON, RIGHT, Depth(7)), Err(Refusal::NoEdit));
-            assert_eq!(unit.allow(Item(3), Item(0), ON, RIGHT, Depth(7)), Ok(()));
-            assert_eq!(unit.check(Item(0), ON, RIGHT), Ok(true));
-            assert_eq!(unit.check(Item(0), ON, Right(8)), Err(Refusal::OutOfRange));
-            assert_eq!(unit.subjects(), 1 << 0 | 1 << 3);
-            assert_eq!(unit.withdraw(Item(3), Item(0), ON, RIGHT), Ok(()));
-            assert_eq!(unit.check(Item(0), ON, RIGHT), Ok(false));
-            assert_eq!(unit.delete(Item(3), ON), Ok(()));
-            assert_eq!(unit.subjects(), 1 << 0);
-            assert_eq!(unit.in_order(), Ok(()));
+    ($module:ident, $unit:ident) => {
+        mod $module {
+            use super::*;
+
+            static UNIT: std::sync::Mutex<$unit> = std::sync::Mutex::new($unit::fresh());
+
+            fn created() -> ($unit, Journal) {
+                let (mut unit, mut journal) = ($unit::fresh(), Journal::fresh());
+                give(&mut unit, &mut journal, &ITEMS);
+                (unit, journal)
+            }
+
+            /// The cells written out in the crate are those that the engine writes.
+            #[test]
+            fn fresh() {
+                let mut image = $unit::fresh().image().map(|_| 9);
+                assert_eq!(lent::$module::fresh(&mut image), 0);
+                assert!($unit::fresh().image() == &image && $unit::default().image() == &image);
+                assert!(UNIT.lock().expect("the unit").image() == &image);
+            }
+
+            #[test]
+            fn commands() {
+                let (mut unit, mut journal) = created();
+                give(&mut unit, &mut journal, &[GRANT]);
+                refuse(&mut unit, &mut journal);
+                give(&mut unit, &mut journal, &[END_OF_GRANT, END_OF_ITEM]);
+            }
+
+            #[test]
+            fn check() {
+                let (mut unit, mut journal) = created();
+                assert_eq!(unit.check(Item(12), Item(9), Right(5)), Ok(false));
+                give(&mut unit, &mut journal, &[GRANT]);
+                assert_eq!(unit.check(Item(12), Item(9), Right(5)), Ok(true));
+                for (who, on, right) in [(9, 12, 5), (12, 9, 4), (3, 9, 5), (12, 5, 5)] {
+                    assert_eq!(unit.check(Item(who), Item(on), Right(right)), Ok(false));
+                }
+                for (who, on, right) in [(64, 9, 5), (12, 64, 5), (12, 9, 8)] {
+                    let answer = unit.check(Item(who), Item(on), Right(right));
+                    assert_eq!(answer, Err(Refusal::OutOfRange));
+                }
+            }
+
+            #[test]
+            fn subjects() {
+                let (mut unit, mut journal) = created();
+                assert_eq!(unit.subjects(), 1 << 0 | 1 << 3);
+                give(&mut unit, &mut journal, &[GRANT]);
+                assert_eq!(unit.subjects(), 1 << 0 | 1 << 3 | 1 << 12);
+                give(&mut unit, &mut journal, &[END_OF_ITEM]);
+                assert_eq!(unit.subjects(), 1 << 0);
+            }
+
+            #[test]
+            fn stored() {
+                let (mut unit, mut journal) = created();
+                give(&mut unit, &mut journal, &[GRANT]);
+                let mut image = unit.image().to_vec();
+                $unit::from_image(&image).expect("in order").assert_says(&journal);
+                let refused = |image: &[_]| $unit::from_image(image).expect_err("refused");
+                assert_eq!(refused(&image[1..]), Refusal::WrongLength);
+                assert_eq!(refused(&[]), Refusal::WrongLength);
+                image.push(0);
+                assert_eq!(refused(&image), Refusal::WrongLength);
+                image.pop();
+                image[0] &= !1;
+                assert_eq!(refused(&image), Refusal::NotInOrder);
+            }
         }
     };
 }
@@ -125,16 +183,148 @@ flat!(lists, Lists);
 flat!(rows, Rows);
 
 #[test]
-fn converted_and_stored() {
-    let mut lists = Lists::fresh();
-    assert_eq!(lists.create(Item(0), ON), Ok(()));
-    assert_eq!(lists.allow(Item(0), ON, Item(0), Right(7), Depth(0)), Ok(()));
+fn converted() {
+    let (mut lists, mut journal) = (Lists::fresh(), Journal::fresh());
+    give(&mut lists, &mut journal, &ITEMS);
+    give(&mut lists, &mut journal, &[GRANT]);
     let rows = Rows::from(&lists);
-    assert_eq!(rows.check(ON, Item(0), Right(7)), Ok(true));
-    assert_eq!(Lists::from(&rows), lists);
-    assert_eq!(Rows::from_image(rows.image()).as_ref(), Ok(&rows));
-    let mut image = *rows.image();
-    image[1] = 0;
-    assert_eq!(Rows::from_image(&image), Err(Refusal::NotInOrder));
-    assert_eq!(Rows::from_image(&image[1..]), Err(Refusal::WrongLength));
+    rows.assert_says(&journal);
+    Lists::from(&rows).assert_says(&journal);
+}
+
+mod chains {
+    use super::*;
+    use std::mem::MaybeUninit;
+
+    /// The unit after these commands too, and its journal.
+    fn created_and(more: &[Command]) -> (Chains, Journal) {
+        let (mut unit, mut journal) = (Chains::fresh(), Journal::fresh());
+        give(&mut unit, &mut journal, &ITEMS);
+        give(&mut unit, &mut journal, more);
+        (unit, journal)
+    }
+
+    /// The cells written out in the crate are those that the engine writes.
+    #[test]
+    fn fresh() {
+        let (mut grants, mut loans) = (vec![9; 32_776], vec![9; 1025]);
+        assert_eq!(lent::chains::fresh(&mut grants, &mut loans), 0);
+        for unit in [Chains::fresh(), Chains::default()] {
+            assert!(unit.grants()[..] == grants && unit.loans()[..] == loans);
+        }
+    }
+
+    #[test]
+    fn commands() {
+        let (mut unit, mut journal) = created_and(&[GRANT, LOAN]);
+        refuse(&mut unit, &mut journal);
+        assert_eq!(unit.give(lend(3, 12, 9, 0, 2)), Err(Refusal::EditRight));
+        unit.assert_says(&journal);
+        give(&mut unit, &mut journal, &[END_OF_GRANT, END_OF_LOAN, GRANT, LOAN, END_OF_ITEM]);
+    }
+
+    /// The loan as the paper writes it down, and that a recall ends it and no other.
+    #[test]
+    fn recall_ends_a_loan() {
+        let (mut unit, mut journal) = created_and(&[LOAN, lend(3, 12, 9, 5, 1)]);
+        let word = (3 << 18) + (9 << 12) + (5 << 9) + (12 << 3);
+        assert_eq!(unit.loans()[..4], [2, word + 1, word + 2, 0]);
+        give(&mut unit, &mut journal, &[END_OF_LOAN]);
+        assert_eq!(unit.loans()[..4], [1, word + 1, 0, 0]);
+        assert_eq!(unit.give(recall(3, 12, 9, 5, 8)), Err(Refusal::OutOfRange));
+    }
+
+    #[test]
+    fn check() {
+        let (mut unit, mut journal) = created_and(&[]);
+        let ask = |unit: &Chains, who, on, right| unit.check(Item(who), Item(on), Right(right));
+        let no = ask(&unit, 12, 9, 5).expect("an answer");
+        assert_eq!((no.yes(), no.depth(), no.persons()), (false, Depth(0), &[][..]));
+        give(&mut unit, &mut journal, &[allow(3, 3, 9, 5, 4), LOAN, lend(12, 5, 9, 5, 7)]);
+        let yes = ask(&unit, 12, 9, 5).expect("an answer");
+        assert_eq!((yes.yes(), yes.depth()), (true, Depth(2)));
+        assert_eq!(yes.persons(), [Item(3), Item(12)]);
+        let longer = ask(&unit, 5, 9, 5).expect("an answer");
+        assert_eq!((longer.yes(), longer.depth()), (true, Depth(1)));
+        assert_eq!(longer.persons(), [Item(3), Item(12), Item(5)]);
+        assert_eq!(ask(&unit, 9, 12, 5), Ok(no));
+        for (who, on, right) in [(64, 9, 5), (12, 64, 5), (12, 9, 8)] {
+            assert_eq!(ask(&unit, who, on, right), Err(Refusal::OutOfRange));
+        }
+        unit.assert_says(&journal);
+    }
+
+    /// What is made of stored images, if anything, by value and in place.
+    fn stored(grants: &[u8], loans: &[u32]) -> Result<Chains, Refusal> {
+        let unit = Chains::from_images(grants, loans);
+        let mut place = MaybeUninit::uninit();
+        let in_place = Chains::from_images_in(&mut place, grants, loans);
+        assert!(in_place.map(|unit| unit.clone()) == unit, "in place");
+        let (mut loaded, journal) = created_and(&[]);
+        match loaded.load(grants, loans) {
+            Ok(()) => assert!(Ok(&loaded) == unit.as_ref(), "loaded"),
+            Err(refusal) => {
+                assert_eq!(unit.as_ref(), Err(&refusal));
+                loaded.assert_says(&journal);
+            }
+        }
+        unit
+    }
+
+    #[test]
+    fn stored_in_order() {
+        let (unit, journal) = created_and(&[GRANT, LOAN]);
+        let made = stored(unit.grants(), unit.loans()).expect("in order");
+        made.assert_says(&journal);
+    }
+
+    #[test]
+    fn stored_otherwise() {
+        let (unit, _) = created_and(&[GRANT, LOAN]);
+        let (mut grants, mut loans) = (unit.grants().to_vec(), unit.loans().to_vec());
+        let refused = |grants: &[u8], loans: &[u32]| stored(grants, loans).expect_err("refused");
+        assert_eq!(refused(&grants, &loans[1..]), Refusal::WrongLength);
+        assert_eq!(refused(&grants[1..], &loans), Refusal::WrongLength);
+        assert_eq!(refused(&[], &[]), Refusal::WrongLength);
+        loans[0] = 2;
+        assert_eq!(refused(&grants, &loans), Refusal::NotInOrder);
+        loans[0] = 1;
+        grants[0] &= !1;
+        assert_eq!(refused(&grants, &loans), Refusal::NotInOrder);
+    }
+
+    #[test]
+    fn reset() {
+        let (mut unit, _) = created_and(&[GRANT, LOAN]);
+        unit.reset();
+        unit.assert_says(&Journal::fresh());
+    }
+
+    #[test]
+    fn fresh_in() {
+        let mut place = MaybeUninit::new(created_and(&[GRANT, LOAN]).0);
+        Chains::fresh_in(&mut place).assert_says(&Journal::fresh());
+    }
+
+    #[test]
+    fn cloned() {
+        let (unit, journal) = created_and(&[GRANT, LOAN]);
+        unit.clone().assert_says(&journal);
+        let (mut other, _) = created_and(&[lend(0, 5, 3, 1, 0)]);
+        assert!(other != unit);
+        other.clone_from(&unit);
+        other.assert_says(&journal);
+        assert!(other == unit);
+    }
+
+    #[cfg(feature = "alloc")]
+    #[test]
+    fn boxed() {
+        Chains::boxed().assert_says(&Journal::fresh());
+        let (unit, journal) = created_and(&[GRANT, LOAN]);
+        let made = Chains::boxed_from_images(unit.grants(), unit.loans()).expect("in order");
+        made.assert_says(&journal);
+        let refused = Chains::boxed_from_images(unit.grants(), &unit.loans()[1..]);
+        assert_eq!(refused.expect_err("refused"), Refusal::WrongLength);
+    }
 }

@@ -117,5 +117,5 @@ pub const UNIT: api::Chains = api::Chains {
     lend: |grants, loans, g| number(try_lend(&mut Chains { grants, loans }, g)),
     recall: |grants, loans, g| number(try_recall(&mut Chains { grants, loans }, g)),
     check,
-    in_order: |grants, loans| number(order(grants, loans)),
+    inspect: |grants, loans| number(order(grants, loans)),
 };

@@ -120,7 +120,7 @@ pub fn subjects<I: Image + ?Sized>(image: &I) -> Said {
     }
 }
 
-pub fn in_order<I: Image + ?Sized>(image: &I) -> u32 {
+pub fn inspect<I: Image + ?Sized>(image: &I) -> u32 {
     number(image.order())
 }
 
@@ -187,7 +187,7 @@ pub const PLAIN: Api = Api {
         withdraw: withdraw::<[u64]>,
         check: check::<[u64]>,
         subjects: subjects::<[u64]>,
-        in_order: in_order::<[u64]>,
+        inspect: inspect::<[u64]>,
     },
     rows: Flat {
         fresh: |image| fresh(image, ROWS_BYTES, 8),
@@ -197,7 +197,7 @@ pub const PLAIN: Api = Api {
         withdraw: withdraw::<[u8]>,
         check: check::<[u8]>,
         subjects: subjects::<[u8]>,
-        in_order: in_order::<[u8]>,
+        inspect: inspect::<[u8]>,
     },
     lists_to_rows: convert::lists_to_rows,
     rows_to_lists: convert::rows_to_lists,

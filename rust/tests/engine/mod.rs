@@ -15,7 +15,7 @@ pub trait Flat: Layout {
     fn give(image: &mut [Self::Cell], command: Command) -> Option<u32>;
     fn check(image: &[Self::Cell], question: (u32, u32, u32)) -> (u32, u32);
     fn subjects(image: &[Self::Cell]) -> (u32, u64);
-    fn in_order(image: &[Self::Cell]) -> u32;
+    fn inspect(image: &[Self::Cell]) -> u32;
     fn convert(image: &[Self::Cell], into: &mut [<Self::Other as Layout>::Cell]) -> u32;
 }
 
@@ -51,8 +51,8 @@ macro_rules! flat {
                 lent::$unit::subjects(image)
             }
 
-            fn in_order(image: &[Self::Cell]) -> u32 {
-                lent::$unit::in_order(image)
+            fn inspect(image: &[Self::Cell]) -> u32 {
+                lent::$unit::inspect(image)
             }
 
             fn convert(image: &[Self::Cell], into: &mut [<$other as Layout>::Cell]) -> u32 {

@@ -1,5 +1,5 @@
-//! Document 01 once more, in plain Rust over sets. It shares no code with the engine; where the paper
-//! leaves a choice, it follows the readings in docs/DECISIONS.md.
+//! Document 01 once more, in plain Rust over sets. It shares no code with the engine; where the
+//! paper leaves a choice, it follows the readings in docs/DECISIONS.md.
 #![allow(dead_code, unused_imports)]
 
 mod chains;

@@ -1,0 +1,130 @@
+//! That guard pages see what they are for, and the results that a call writes through pointers,
+//! each at a guard page.
+
+mod guarded;
+mod model;
+
+use std::env;
+use std::os::unix::process::ExitStatusExt;
+use std::process::Command;
+
+use guarded::{Guarded, Side, SIDES};
+use model::{image_of, loans_image, Grant, GrantLayout, Journal, ListLayout, Loan, RowLayout};
+use rights::ffi;
+
+/// Names the access that the process is to make.
+const ACCESS: &str = "RIGHTS_TEST_ACCESS";
+const SIGSEGV: i32 = 11;
+
+/// Makes one access to a buffer of 513 words, on the guarded side.
+fn touch(access: &str) {
+    let (place, cell) = access.split_once(' ').expect("two words");
+    let (side, at) = match cell {
+        "first" => (Side::Front, 0),
+        "before" => (Side::Front, -1),
+        "last" => (Side::Back, 512),
+        _ => (Side::Back, 513),
+    };
+    let buffer = Guarded::new(&[1u64; 513], side);
+    let cell = buffer.pointer().wrapping_offset(at);
+    // SAFETY: none where the cell lies in a guard page, and that is what the process ends of.
+    unsafe {
+        if place == "read" {
+            println!("{}", cell.read_volatile());
+        } else {
+            cell.write_volatile(2);
+        }
+    }
+}
+
+/// One cell too far ends the process, by reading and by writing; the cells of the buffer do not.
+#[test]
+fn touching_a_guard_page() {
+    if let Ok(access) = env::var(ACCESS) {
+        return touch(&access);
+    }
+    let ends = |access: &str| {
+        let mut child = Command::new(env::current_exe().expect("this program"));
+        child.args(["--exact", "touching_a_guard_page"]).env(ACCESS, access);
+        child.output().expect("a process").status
+    };
+    for access in ["read before", "read after", "write before", "write after"] {
+        assert_eq!(ends(access).signal(), Some(SIGSEGV), "{access}");
+    }
+    for access in ["read first", "read last", "write first", "write last"] {
+        assert!(ends(access).success(), "{access}");
+    }
+}
+
+/// Right 1 on item 0 granted to it at depth 2, and lent by it to itself at depth 1.
+fn state() -> Journal {
+    let mut journal = Journal::fresh();
+    journal.grants.insert(Grant { item: 0, right: 1, person: 0, depth: 2 });
+    journal.loans.insert(Loan { lender: 0, item: 0, right: 1, borrower: 0, depth: 1 });
+    journal
+}
+
+/// The checks and the subjects of lists and rows, by the raw declarations.
+macro_rules! flat_results {
+    ($name:ident, $layout:ident, $check:ident, $subjects:ident) => {
+        #[test]
+        fn $name() {
+            let image = image_of::<$layout>(&state());
+            let (at, length) = (image.as_ptr(), image.len());
+            for side in SIDES {
+                for (length, right, number, said) in
+                    [(length, 1, 0, 1), (length, 2, 0, 0), (length, 8, 3, 0), (0, 1, 1, 0)]
+                {
+                    let mut yes = Guarded::new(&[9u32], side);
+                    // SAFETY: pointers to an image, with its length or less, and to a number.
+                    let given = unsafe { ffi::$check(at, length, 0, 0, right, yes.pointer()) };
+                    assert_eq!(given, number);
+                    yes.assert_holds(&[said], "a check");
+                }
+                for (length, number, said) in [(length, 0, 1), (0, 1, 0)] {
+                    let mut persons = Guarded::new(&[9u64], side);
+                    // SAFETY: as above.
+                    let given = unsafe { ffi::$subjects(at, length, persons.pointer()) };
+                    assert_eq!(given, number);
+                    persons.assert_holds(&[said], "subjects");
+                }
+            }
+        }
+    };
+}
+
+flat_results!(lists, ListLayout, rights_lists_check, rights_lists_subjects);
+flat_results!(rows, RowLayout, rights_rows_check, rights_rows_subjects);
+
+/// The chain unit's check, by the raw declaration: the chain, the depth and the number of persons.
+#[test]
+fn chains() {
+    let journal = state();
+    let (grants, loans) = (image_of::<GrantLayout>(&journal), loans_image(&journal));
+    let check = |right: u32, side: Side| {
+        let mut chain = Guarded::new(&[9u8; 8], side);
+        let (depth, persons) = (Guarded::new(&[9u32], side), Guarded::new(&[9u32], side));
+        let (at, words) = (grants.as_ptr(), loans.as_ptr());
+        let (to, max) = (chain.slice().as_mut_ptr(), chain.slice().len());
+        let (length, count) = (grants.len(), loans.len());
+        // SAFETY: pointers to two images, a chain buffer and two numbers, with their lengths.
+        let number = unsafe {
+            let (depth, persons) = (depth.pointer(), persons.pointer());
+            ffi::rights_chains_check(at, length, words, count, 0, 0, right, to, max, depth, persons)
+        };
+        (number, chain, depth, persons)
+    };
+    let no = [255; 8];
+    let yes = [0, 255, 255, 255, 255, 255, 255, 255];
+    for side in SIDES {
+        for (right, said, held, deep, count) in
+            [(1, 0, yes, 2, 1), (2, 0, no, 0, 0), (8, 3, [9; 8], 0, 0)]
+        {
+            let (number, mut chain, mut depth, mut persons) = check(right, side);
+            assert_eq!(number, said);
+            chain.assert_holds(&held, "a check");
+            depth.assert_holds(&[deep], "a check");
+            persons.assert_holds(&[count], "a check");
+        }
+    }
+}

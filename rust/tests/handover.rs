@@ -1,0 +1,84 @@
+//! The chain unit's type on the handover examples of document 01, E1 to E13.
+
+use rights::{Chains, Depth, Item, Refusal, Right};
+
+const ON: Item = Item(9);
+const RIGHT: Right = Right(1);
+
+/// What every handover example starts from.
+fn base() -> Chains {
+    let mut unit = Chains::fresh();
+    for on in [3, 4, 5, 9] {
+        assert_eq!(unit.create(Item(0), Item(on)), Ok(()));
+    }
+    assert_eq!(unit.allow(Item(0), Item(3), ON, RIGHT, Depth(2)), Ok(()));
+    assert_eq!(unit.lend(Item(3), Item(4), ON, RIGHT, Depth(1)), Ok(()));
+    assert_eq!(unit.lend(Item(4), Item(5), ON, RIGHT, Depth(0)), Ok(()));
+    unit
+}
+
+/// The depth and the chain of a yes, nothing on no.
+fn check(unit: &Chains, who: u32) -> Option<(u32, Vec<u32>)> {
+    let answer = unit.check(Item(who), ON, RIGHT).expect("an answer");
+    let persons = answer.persons().iter().map(|person| person.0).collect();
+    Some((answer.depth().0, persons)).filter(|_| answer.yes())
+}
+
+#[test]
+fn e1_to_e4() {
+    let mut unit = base();
+    assert_eq!(check(&unit, 5), Some((0, vec![3, 4, 5])));
+    assert_eq!(check(&unit, 4), Some((1, vec![3, 4])));
+    assert_eq!(check(&unit, 0), None);
+    assert_eq!(unit.recall(Item(3), Item(4), ON, RIGHT, Depth(0)), Ok(()));
+    assert_eq!(check(&unit, 4), Some((1, vec![3, 4])));
+}
+
+#[test]
+fn e5_to_e7() {
+    let mut e5 = base();
+    assert_eq!(e5.withdraw(Item(0), Item(3), ON, RIGHT), Ok(()));
+    assert_eq!(check(&e5, 5), None);
+    assert_eq!(e5.allow(Item(0), Item(3), ON, RIGHT, Depth(1)), Ok(()));
+    assert_eq!(check(&e5, 4), Some((0, vec![3, 4])));
+    assert_eq!(check(&e5, 5), None);
+    let mut e6 = base();
+    assert_eq!(e6.lend(Item(3), Item(5), ON, RIGHT, Depth(5)), Ok(()));
+    assert_eq!(check(&e6, 5), Some((1, vec![3, 5])));
+    let mut e7 = base();
+    assert_eq!(e7.delete(Item(0), Item(4)), Ok(()));
+    assert_eq!(e7.create(Item(0), Item(4)), Ok(()));
+    assert_eq!(check(&e7, 4), None);
+}
+
+#[test]
+fn e8_to_e12() {
+    let mut unit = base();
+    assert_eq!(unit.create(Item(0), Item(63)), Ok(()));
+    assert_eq!(unit.create(Item(0), Item(64)), Err(Refusal::OutOfRange));
+    assert_eq!(unit.create(Item(0), Item(3)), Err(Refusal::AlreadyLive));
+    assert_eq!(unit.delete(Item(3), Item(0)), Err(Refusal::RootItem));
+    assert_eq!(unit.allow(Item(3), Item(4), ON, RIGHT, Depth(0)), Err(Refusal::NoEdit));
+    assert_eq!(unit.create(Item(7), Item(3)), Err(Refusal::ByDead));
+    assert_eq!(unit.delete(Item(0), Item(7)), Err(Refusal::NamedDead));
+    let right_0 = unit.lend(Item(3), Item(4), ON, Right(0), Depth(0));
+    assert_eq!(right_0, Err(Refusal::EditRight));
+}
+
+/// E13: two loans stand; 1,022 more are lent, then one too many, then one that stands.
+#[test]
+fn e13() {
+    let mut unit = base();
+    let persons = [0, 3, 4, 5, 9];
+    let mut lend = |n: usize| {
+        let (by, to) = (persons[n % 5], persons[n / 5 % 5]);
+        let (right, depth) = (Right(2 + n as u32 / 25 % 6), Depth(n as u32 / 150));
+        unit.lend(Item(by), Item(to), ON, right, depth)
+    };
+    for n in 0..1022 {
+        assert_eq!(lend(n), Ok(()), "loan {n}");
+    }
+    assert_eq!(lend(1022), Err(Refusal::Full));
+    assert_eq!(lend(1021), Ok(()));
+    assert_eq!(unit.loans()[0], 1024);
+}
