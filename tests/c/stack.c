@@ -40,22 +40,19 @@ static uint8_t chain[RIGHTS_CHAIN_PERSONS];
         number = rights_##name(__VA_ARGS__); \
     }
 
-CALL(lists_fresh, LISTS)
-CALL(lists_create, LISTS, 0, DEAD)
-CALL(lists_delete, LISTS, 0, DEAD)
-CALL(lists_allow, LISTS, 0, LENDER, DRAWER, RIGHT, 7)
-CALL(lists_withdraw, LISTS, 0, LENDER, DRAWER, RIGHT)
-CALL(lists_check, LISTS, LENDER, DRAWER, RIGHT, &yes)
-CALL(lists_subjects, LISTS, &persons_set)
-CALL(lists_inspect, LISTS)
-CALL(rows_fresh, ROWS)
-CALL(rows_create, ROWS, 0, DEAD)
-CALL(rows_delete, ROWS, 0, DEAD)
-CALL(rows_allow, ROWS, 0, LENDER, DRAWER, RIGHT, 7)
-CALL(rows_withdraw, ROWS, 0, LENDER, DRAWER, RIGHT)
-CALL(rows_check, ROWS, LENDER, DRAWER, RIGHT, &yes)
-CALL(rows_subjects, ROWS, &persons_set)
-CALL(rows_inspect, ROWS)
+/* The calls of a unit without depth, over its buffer. */
+#define FLAT(unit, ...) \
+    CALL(unit##_fresh, __VA_ARGS__) \
+    CALL(unit##_create, __VA_ARGS__, 0, DEAD) \
+    CALL(unit##_delete, __VA_ARGS__, 0, DEAD) \
+    CALL(unit##_allow, __VA_ARGS__, 0, LENDER, DRAWER, RIGHT, 7) \
+    CALL(unit##_withdraw, __VA_ARGS__, 0, LENDER, DRAWER, RIGHT) \
+    CALL(unit##_check, __VA_ARGS__, LENDER, DRAWER, RIGHT, &yes) \
+    CALL(unit##_subjects, __VA_ARGS__, &persons_set) \
+    CALL(unit##_inspect, __VA_ARGS__)
+
+FLAT(lists, LISTS)
+FLAT(rows, ROWS)
 CALL(lists_to_rows, LISTS, ROWS)
 CALL(rows_to_lists, ROWS, LISTS)
 CALL(chains_fresh, UNIT)
