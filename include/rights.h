@@ -5,7 +5,7 @@
  * elements, side by side. No pointer is null, also where the length is 0; a buffer is aligned for its elements; the buffers and
  * results of one call do not overlap.
  *
- * Every function that takes a buffer returns a number of the table below, the lowest that applies; 0, RIGHTS_DONE, is no error.
+ * Every function that takes a buffer returns a number of the table below, the first that applies; 0, RIGHTS_DONE, is no error.
  * Beside any other number every lent buffer is as it was, and every other result is 0.
  *
  * What the library rests on:
@@ -23,8 +23,9 @@
  *
  * - Byte order: least byte first, which is how this machine holds words.
  * - Layout: keep RIGHTS_LAYOUT_DATE beside every stored image, and read no image with another date.
- * - Integrity: 'in order' is no checksum. Of the single-bit changes to the images of one state 4,270 left them in order, each then
- *   with other items, grants or loans. Keep a checksum beside every stored image, and compare it before rights_*_inspect.
+ * - Integrity: 'in order' is no checksum. Of the single-bit changes to the images of one state 8,783 left them in order, each then
+ *   with another shift or other items, grants or loans. Keep a checksum beside every stored image, and compare it before
+ *   rights_*_inspect.
  *
  * At start-up compare the header with the library, so that neither is of another engine:
  *
@@ -65,16 +66,20 @@ extern "C" {
 #endif
 
 /* Which engine this header is of: 10000 * major + 100 * minor + patch, and the date of the images' layout as digits. */
-#define RIGHTS_VERSION 10100
-#define RIGHTS_LAYOUT_DATE 20261115
+#define RIGHTS_VERSION 10200
+#define RIGHTS_LAYOUT_DATE 20261116
 
 /* Enough stack below the caller's frame for any call. */
 #define RIGHTS_STACK_BYTES 8192
 
-/* Limits. An item is a person or a thing, 0 to RIGHTS_ITEM_MAX; item 0 is the root item. Right 0 is the right to edit grants. */
+/*
+ * Limits. An item is a person or a thing, 0 to RIGHTS_ITEM_MAX; item 0 is the root item. Right 0 is the right to edit grants. The last
+ * shift of a loan is 1 to RIGHTS_SHIFT_MAX, or 0 for a loan that is open-ended.
+ */
 #define RIGHTS_ITEM_MAX 63
 #define RIGHTS_RIGHT_MAX 7
 #define RIGHTS_DEPTH_MAX 7
+#define RIGHTS_SHIFT_MAX 255
 #define RIGHTS_LOANS_MAX 1024
 
 /*
@@ -86,11 +91,11 @@ extern "C" {
  *
  * Grants of a chain unit: bytes 0 to 7 as in rows. Byte 8 + 512 * on + 64 * right + person has bit d for each depth d.
  *
- * Loans of a chain unit: word 0 is the count; then the loans, rising; every later word is 0. A loan is
- * lender * 2^18 + on * 2^12 + right * 2^9 + borrower * 2^3 + depth.
+ * Loans of a chain unit: word 0 is shift * 2^16 + count, the present shift and the number of loans; then the loans, rising; every
+ * later word is 0. A loan is last * 2^24 + lender * 2^18 + on * 2^12 + right * 2^9 + borrower * 2^3 + depth.
  *
- * An image is in order when item 0 lives, it names no dead item (for loans, by the live set of the grants), the count is at most
- * RIGHTS_LOANS_MAX, the loans in use rise strictly, are below 2^24 and carry no right 0, and the rest is 0.
+ * An image is in order when item 0 lives, it names no dead item (for loans, by the live set of the grants), the shift is at most
+ * RIGHTS_SHIFT_MAX and the count at most RIGHTS_LOANS_MAX, the loans in use rise strictly and carry no right 0, and the rest is 0.
  */
 #define RIGHTS_LISTS_WORDS 513
 #define RIGHTS_ROWS_BYTES 4104
@@ -101,7 +106,10 @@ extern "C" {
 #define RIGHTS_CHAIN_PERSONS 8
 #define RIGHTS_NO_PERSON 255
 
-/* What a function returns, in words: rights_text. No function here returns RIGHTS_MALFORMED, the number of a command line. */
+/*
+ * What a function returns, in words: rights_text. The first that applies is given, in this order: 1 to 8, 12, 9, 13, 10. No function
+ * here returns RIGHTS_MALFORMED, the number of a command line.
+ */
 #define RIGHTS_DONE 0
 #define RIGHTS_WRONG_LENGTH 1
 #define RIGHTS_NOT_IN_ORDER 2
@@ -114,6 +122,8 @@ extern "C" {
 #define RIGHTS_EDIT_RIGHT 9
 #define RIGHTS_FULL 10
 #define RIGHTS_MALFORMED 11
+#define RIGHTS_SHIFT_BACK 12
+#define RIGHTS_LAST_PAST 13
 
 /* A short text for a number; never null. */
 static inline const char *rights_text(uint32_t number)
@@ -122,7 +132,7 @@ static inline const char *rights_text(uint32_t number)
     case RIGHTS_DONE: return "done";
     case RIGHTS_WRONG_LENGTH: return "a lent buffer has a wrong length";
     case RIGHTS_NOT_IN_ORDER: return "a lent image to be read is not in order";
-    case RIGHTS_OUT_OF_RANGE: return "an item, a right or a depth is above its limit";
+    case RIGHTS_OUT_OF_RANGE: return "an item, a right, a depth or a shift is above its limit";
     case RIGHTS_BY_DEAD: return "by does not live";
     case RIGHTS_NAMED_DEAD: return "on, or to, does not live";
     case RIGHTS_ALREADY_LIVE: return "create: on lives";
@@ -131,6 +141,8 @@ static inline const char *rights_text(uint32_t number)
     case RIGHTS_EDIT_RIGHT: return "lend: right 0 is not lent";
     case RIGHTS_FULL: return "lend: 1,024 loans stand and this is not one of them";
     case RIGHTS_MALFORMED: return "a command line is malformed";
+    case RIGHTS_SHIFT_BACK: return "shift: below the present one while a loan with a last shift stands";
+    case RIGHTS_LAST_PAST: return "lend: last is set and below the present shift";
     default: return "no number of this engine";
     }
 }
@@ -203,7 +215,7 @@ RIGHTS_NODISCARD uint32_t rights_rows_to_lists(const uint8_t *source, size_t byt
 
 /* ---- A chain unit: grants with depths, and loans. `bytes` is RIGHTS_GRANTS_BYTES, `words` is RIGHTS_LOANS_WORDS. */
 
-/* Makes a fresh unit, whatever the buffers held: the grants of a fresh unit, and no loan. 0 or 1. */
+/* Makes a fresh unit, whatever the buffers held: the grants of a fresh unit, shift 0 and no loan. 0 or 1. */
 RIGHTS_NODISCARD uint32_t rights_chains_fresh(uint8_t *grants, size_t bytes, uint32_t *loans, size_t words) RIGHTS_NONNULL;
 
 /* Item on lives, and by has an edit grant of depth 0 on it. 0 to 4 or 6. */
@@ -222,16 +234,26 @@ RIGHTS_NODISCARD uint32_t rights_chains_allow(uint8_t *grants, size_t bytes, uin
 RIGHTS_NODISCARD uint32_t rights_chains_withdraw(uint8_t *grants, size_t bytes, uint32_t *loans, size_t words, uint32_t by,
     uint32_t to, uint32_t on, uint32_t right) RIGHTS_NONNULL;
 
-/* Lends the right on item on from by to to at that depth, also where by holds nothing yet. 0 to 5, 9 or 10. */
+/*
+ * Lends the right on item on from by to to at that depth, also where by holds nothing yet. With a last shift the loan carries up to and
+ * in that shift; with last 0 it is open-ended. The same loan with another last is another loan. 0 to 5, 9, 13 or 10.
+ */
 RIGHTS_NODISCARD uint32_t rights_chains_lend(uint8_t *grants, size_t bytes, uint32_t *loans, size_t words, uint32_t by, uint32_t to,
-    uint32_t on, uint32_t right, uint32_t depth) RIGHTS_NONNULL;
+    uint32_t on, uint32_t right, uint32_t depth, uint32_t last) RIGHTS_NONNULL;
 
-/* Ends just that loan of by, if it stands. 0 to 5. */
+/* Ends just that loan of by, if it stands, past its last shift or not. 0 to 5. */
 RIGHTS_NODISCARD uint32_t rights_chains_recall(uint8_t *grants, size_t bytes, uint32_t *loans, size_t words, uint32_t by,
-    uint32_t to, uint32_t on, uint32_t right, uint32_t depth) RIGHTS_NONNULL;
+    uint32_t to, uint32_t on, uint32_t right, uint32_t depth, uint32_t last) RIGHTS_NONNULL;
 
 /*
- * Whether a chain of grants and loans leads to who. `persons_max` is RIGHTS_CHAIN_PERSONS. 0 to 3.
+ * Sets the present shift; needs an edit grant on item 0. A loan that is past its last shift stands and counts until it is recalled, but
+ * no chain uses it. The shift may start again lower once no loan with a last shift stands. 0 to 4, 8 or 12.
+ */
+RIGHTS_NODISCARD uint32_t rights_chains_shift(uint8_t *grants, size_t bytes, uint32_t *loans, size_t words, uint32_t by,
+    uint32_t shift) RIGHTS_NONNULL;
+
+/*
+ * Whether a chain of grants and carrying loans leads to who. `persons_max` is RIGHTS_CHAIN_PERSONS. 0 to 3.
  * Yes exactly when it returns 0 and *persons is 1 to 8: *depth is the greatest depth that any chain ends with, and chain has the
  * persons of one that does, the grant's first, RIGHTS_NO_PERSON after the last.
  * No: it returns 0, *depth and *persons are 0, and every byte of chain is RIGHTS_NO_PERSON.

@@ -1,7 +1,7 @@
 -- Demand 3: fed any list of commands from the start, the three units agree with the journal. Each unit's image is a function of the
 -- journal that it is held to, and each command keeps it so; lists and rows are held to a journal of their own commands first, and that
 -- one is alike to the whole journal in live items and grants.
-use mathlib.Core.Path.{_≡_, refl, sym, ap, _∙_, subst}
+use mathlib.Core.Path.{_≡_, refl, sym, ap, ap₂, _∙_, subst}
 use mathlib.Core.Bool.{Bool, true, false, not, _&&_, cond, false≢true}
 use mathlib.Core.Logic.{_↔_, by-cases}
 use native.Mathlib.Decide.{ℕ-discrete}
@@ -14,14 +14,15 @@ use Rattle.model.specs.declared.Command.{Command}
 use Rattle.bits.specs.Sets.{any}
 use Rattle.model.specs.Commands.{items, rightDepth, argumentsOf, fits}
 use Rattle.model.specs.Answers.{flat, asked, Found, nothing}
-use Rattle.model.specs.Journal.{Loan, Journal, grant, sameLoan, isTo, apply, LoanStands, facts, answered, fresh, step}
+use Rattle.model.specs.Journal.{Loan, Journal, grant, sameLoan, isTo, carries, standingLoan, apply, LoanCarries, facts, answered, fresh, step, run}
 use Rattle.layouts.specs.Layouts.{Layout, lists, rows, grantBytes, flatUnit}
 use Rattle.layouts.specs.Machine.{stepOf}
 use Rattle.model.specs.Chain.{granted, lent, Meets, JournalChain, JournalAccess}
-use Rattle.delegation.specs.Loans.{lender, borrower, loanDepth, loanItem, loanRight, wordOf}
-use Rattle.delegation.specs.Images.{Images, LentIn, ImageChain}
+use Rattle.delegation.specs.Loans.{lastShift, lender, borrower, loanDepth, loanItem, loanRight, wordOf, shiftIn, used}
+use Rattle.delegation.specs.Images.{Images, WordCarries, ImageChain}
 use Rattle.delegation.specs.ChainUnit.{chainCheckNumber, chainFound, chainBuffer}
 use Rattle.agreement.specs.Agreement.{Units, freshUnits, FlatAgrees, ChainAgrees, Agrees, Answers, called, Follows, Agreement, flatStep, OwnAgreement, fed}
+use Rattle.agreement.specs.Examples.{calls}
 use Rattle.bits.proofs.Sets.{fst, snd, both, find, found}
 use Rattle.bits.proofs.Sets as sets
 use Rattle.model.proofs.Chain.{chain-length, chain-map, meets-map, meets-access, access-iff}
@@ -29,10 +30,10 @@ use Rattle.model.specs.Invariant.{ranged, Inv, rangedLoan, Kept, Alike}
 use Rattle.model.proofs.Invariant.{same-loan, loan-self, inv-fresh, loans-ranged}
 use Rattle.layouts.specs.Laws.{Laws, imageOf}
 use Rattle.layouts.proofs.Layouts.{lists-laws, rows-laws, bytes-laws, guard-of, check-of, answer-of, fresh-of, cells-of}
-use Rattle.model.proofs.Answers.{table-same}
+use Rattle.model.proofs.Answers.{table-flat}
 use Rattle.delegation.proofs.Rules.{check-meets}
-use Rattle.delegation.proofs.Loans.{word-fields, word-in, sorted, any-sorted, used-of}
-use Rattle.model.proofs.Steps.{inv-step, kept-fresh, kept-step, flat-lends, alike-apply}
+use Rattle.delegation.proofs.Loans.{word-fields, word-in, sorted, any-sorted, used-of, shift-of}
+use Rattle.model.proofs.Steps.{inv-step, kept-fresh, kept-step, kept-run, flat-lends, alike-apply}
 use Rattle.layouts.proofs.Steps.{step-of}
 use Rattle.delegation.proofs.Steps.{grantsOf, headerFor, imagesOf, few-sorted}
 use Rattle.delegation.proofs.ChainUnit.{guard-chain, answer-chain, step-chain, fresh-chain, stands-ranged, standing-of}
@@ -60,9 +61,12 @@ module _ (j : Journal) (v : Kept j) (o r : ℕ) where
       let f = find (sameLoan l) rangedLoan (j .loans) (loans-ranged j (v .loan-inv)) h in
       ap rangedLoan (same-loan l (f .0) (f .2)) ∙ f .1
 
+  shift-is : shiftIn (imagesOf j .loans) ≡ j .shift
+  shift-is = shift-of (headerFor j) (sorted (j .loans)) (few-sorted j (v .loan-inv))
+
   -- a loan of the image, in the journal
-  word-loan : (w : ℕ) → LentIn (imagesOf j .loans) o r w
-      → (l : Loan) × LoanStands j o r l × (l .lender ≡ lender w) × (l .borrower ≡ borrower w) × (l .depth ≡ loanDepth w)
+  word-loan : (w : ℕ) → WordCarries (imagesOf j .loans) o r w
+      → (l : Loan) × LoanCarries j o r l × (l .lender ≡ lender w) × (l .borrower ≡ borrower w) × (l .depth ≡ loanDepth w)
   word-loan w s =
       let m : any (λ l. eqb w (wordOf l)) (j .loans) ≡ true
       = sym (any-sorted (eqb w) (j .loans))
@@ -71,15 +75,20 @@ module _ (j : Journal) (v : Kept j) (o r : ℕ) where
       let e : w ≡ wordOf (f .0) = eqb-true w (wordOf (f .0)) (f .1) in
       let k = word-fields (f .0) (loan-ranged (f .0) (f .2)) in (
         f .0,
-        (f .2, sym (k .1) ∙ ap loanItem (sym e) ∙ s .1, sym (k .2) ∙ ap loanRight (sym e) ∙ s .2),
+        (
+          f .2,
+          sym (k .1) ∙ ap loanItem (sym e) ∙ s .1,
+          sym (k .2) ∙ ap loanRight (sym e) ∙ s .2,
+          ap₂ carries (sym shift-is) (sym (k .5) ∙ ap lastShift (sym e)) ∙ s .3,
+        ),
         sym (k .0) ∙ ap lender (sym e),
         sym (k .3) ∙ ap borrower (sym e),
         sym (k .4) ∙ ap loanDepth (sym e),
       )
 
   -- and back
-  loan-word : (l : Loan) → LoanStands j o r l
-      → (w : ℕ) × LentIn (imagesOf j .loans) o r w × (lender w ≡ l .lender) × (borrower w ≡ l .borrower) × (loanDepth w ≡ l .depth)
+  loan-word : (l : Loan) → LoanCarries j o r l
+      → (w : ℕ) × WordCarries (imagesOf j .loans) o r w × (lender w ≡ l .lender) × (borrower w ≡ l .borrower) × (loanDepth w ≡ l .depth)
   loan-word l s =
       let g = loan-ranged l (s .0) in
       let k = word-fields l g in (
@@ -89,6 +98,7 @@ module _ (j : Journal) (v : Kept j) (o r : ℕ) where
               ∙ word-in l (j .loans) g (loans-ranged j (v .loan-inv)) ∙ s .0,
           k .1 ∙ s .1,
           k .2 ∙ s .2,
+          ap₂ carries shift-is (k .5) ∙ s .3,
         ),
         k .0,
         k .3,
@@ -204,9 +214,9 @@ alike-answered : {j k : Journal} → Alike j k → (c : Command) → flat c ≡ 
 alike-answered {j} {k} a c h =
     let x = argumentsOf c in
     ap (λ (n : ℕ). cond (not (fits x)) 3 n)
-    (table-same (facts j x) (facts k x) (ap (any (eqb (x .by))) (a .live)) (ap (any (eqb (x .on))) (a .live))
+    (table-flat (facts j x) (facts k x) (ap (any (eqb (x .by))) (a .live)) (ap (any (eqb (x .on))) (a .live))
     (ap (any (eqb (x .to))) (a .live))
-    (ap (any (isTo (x .by) (x .on) 0)) (a .grants)) x (λ n. absurd (false≢true (sym (flat-lends c h) ∙ n))))
+    (ap (any (isTo (x .by) (x .on) 0)) (a .grants)) x (flat-lends c h))
 
 alike-step : {j k : Journal} → Alike j k → (c : Command) → Alike (step j c) (flatStep k c)
 alike-step {j} {k} a c =
@@ -254,3 +264,28 @@ agreement cs = alike-follows cs fresh fresh freshUnits (record { live = refl; gr
 pub own-journal : (cs : List Command) (j k : Journal) → Alike j k → Alike (fed step j cs) (fed flatStep k cs)
 own-journal [] j k a = a
 own-journal (c ∷ cs) j k a = own-journal cs (step j c) (flatStep k c) (alike-step a c)
+
+-- ---- what the journal promises of its shift and loans (model/proofs/Shifts) holds of the chain unit, whose images are the journal's
+pub unit-images : (cs : List Command) → calls freshUnits cs .chains ≡ imagesOf (run fresh cs)
+unfolding calls
+unit-images cs = ap (λ u. calls u cs .chains) fresh-units ∙ from cs fresh fresh kept-fresh inv-fresh
+  where
+    from : (cs : List Command) (j k : Journal) → Kept j → Inv k → calls (unitsOf j k) cs .chains ≡ imagesOf (run j cs)
+    from [] j k v w = refl
+    from (c ∷ cs) j k v w =
+        ap (λ u. calls u cs .chains) (called-of j k v w c) ∙ from cs (step j c) (flatStep k c) (kept-step j c v) (inv-flat k c w)
+
+-- so its shift is the journal's
+pub unit-shift : (cs : List Command) → shiftIn (calls freshUnits cs .chains .loans) ≡ run fresh cs .shift
+unit-shift cs =
+    ap (λ (s : Images). shiftIn (s .loans)) (unit-images cs) ∙ shift-is (run fresh cs) (kept-run cs fresh kept-fresh) 0 0
+
+-- and a loan is in use in it exactly where it stands in the journal
+pub unit-loan : (cs : List Command) (l : Loan) → rangedLoan l ≡ true
+    → any (eqb (wordOf l)) (used (calls freshUnits cs .chains .loans)) ≡ standingLoan (run fresh cs) l
+unit-loan cs l h =
+    let j = run fresh cs in
+    let v = kept-run cs fresh kept-fresh in
+    ap (λ (s : Images). any (eqb (wordOf l)) (used (s .loans))) (unit-images cs)
+    ∙ ap (any (eqb (wordOf l))) (used-of (headerFor j) (sorted (j .loans)) (few-sorted j (v .loan-inv)))
+    ∙ word-in l (j .loans) h (loans-ranged j (v .loan-inv))

@@ -8,22 +8,29 @@ use borrow.Author.Tests.{eqb-true, eq-eqb, leb-true, le-leb, leb-false}
 use lib.ListN.{length, take, replicate, length-append}
 use lib.Dec.{eqb, leb}
 use Rattle.model.specs.declared.Command.{Command}
+use Rattle.model.specs.declared.Command.the-variants.{Lend}
+use Rattle.model.specs.Commands.{argumentsOf}
 use Rattle.bits.specs.Sets.{any, all, keep, add}
-use Rattle.model.specs.Answers.{Found, asked, flat}
-use Rattle.model.specs.Journal.{step, run, Loan, Journal, grant, sameGrant, sameLoan, fresh}
+use Rattle.model.specs.Answers.{Found, asked, table, flat}
+use Rattle.model.specs.Journal.{step, run, Loan, Journal, grant, sameGrant, sameLoan, carries, fresh}
 use Rattle.layouts.specs.Layouts.{lists, rows}
 use Rattle.model.specs.Chain.{granted, lent, Meets, JournalChain}
 use Rattle.agreement.specs.Agreement.{Units, Agrees, Answers, Follows, called, freshUnits, flatStep, fed}
-use Rattle.agreement.specs.Examples.{Route, route, start, extends, onward, extended, routes, routesTo, Question, asks, checks, Said, number, passed, no, flatYes, yes, highest, best, said, flatSaid, Example, base, examples, outcome, flatOutcome, calls, saidOf, chainSaid, chainOutcome, unitSaid, listOutcome, rowOutcome}
+use Rattle.agreement.specs.Examples.{Route, route, start, extends, onward, extended, serves, routes, routesTo, Question, asks, checks, Said, number, passed, no, flatYes, yes, highest, best, said, flatSaid, Example, base, lentFor2, examples, outcome, flatOutcome, calls, saidOf, chainSaid, chainOutcome, unitSaid, listOutcome, rowOutcome}
 use Rattle.bits.proofs.Sets.{all-true, fst, snd, both, or-left, or-right, by-cases, either, found, any-same, any-keep}
 use Rattle.model.proofs.Invariant.{same-loan, same-grant, eqb-self, loan-self, grant-self}
 use Rattle.model.proofs.Steps.{kept-run, kept-fresh}
 use Rattle.agreement.proofs.Agreement.{own-agreement, journal-short}
 
--- E1 to E12
+-- E1 to E12, and the rows of the shift
 pub examples-hold : map outcome examples ≡ map (λ (e : Example). e .expected) examples
-unfolding fresh base examples any keep add extended routes routesTo highest best
+unfolding fresh base lentFor2 carries examples any keep add extended routes routesTo highest best
 examples-hold = refl
+
+-- where lend finds both its last shift past and 1,024 loans, 13 comes before 10
+pub thirteen-before-ten : table (record { by = true; on = true; to = true; edits = true; back = false; past = true; full = true })
+    (argumentsOf (Lend 3 0 9 1 1 1)) ≡ 13
+thirteen-before-ten = refl
 
 -- ---- equal routes
 unfoldable pub sameList : List ℕ → List ℕ → Bool
@@ -143,11 +150,12 @@ module _ (j : Journal) (o r : ℕ) where
       (j .grants) ≡ true = f .2 in w) in
       subst (λ u. JournalChain j o r (u .persons) (u .last) (u .allowance)) (sym e) (granted s)
   route-chain (suc k) t h =
-      let x = extended-out t (keep (λ l. eqb (l .item) o && eqb (l .right) r) (j .loans)) (routes j o r k) h in
-      let f = found (λ l. (eqb (l .item) o && eqb (l .right) r) && sameLoan (x .by) l) sameLoan loan-self (j .loans)
-      (sym (any-keep (sameLoan (x .by)) (λ l. eqb (l .item) o && eqb (l .right) r) (j .loans)) ∙ x .in-loans) in
-      let q : x .by ≡ f .0 = same-loan (x .by) (f .0) (snd (eqb (f .0 .item) o && eqb (f .0 .right) r) _ (f .1)) in
-      let m = on-key (f .0 .item) (f .0 .right) (fst (eqb (f .0 .item) o && eqb (f .0 .right) r) _ (f .1)) in
+      let x = extended-out t (keep (serves j o r) (j .loans)) (routes j o r k) h in
+      let f = found (λ l. serves j o r l && sameLoan (x .by) l) sameLoan loan-self (j .loans)
+      (sym (any-keep (sameLoan (x .by)) (serves j o r) (j .loans)) ∙ x .in-loans) in
+      let q : x .by ≡ f .0 = same-loan (x .by) (f .0) (snd (serves j o r (f .0)) _ (f .1)) in
+      let u : serves j o r (f .0) ≡ true = fst (serves j o r (f .0)) _ (f .1) in
+      let m = on-key (f .0 .item) (f .0 .right) (fst _ (carries (j .shift) (f .0 .last)) u) in
       let c = route-chain k (x .from) (x .in-routes) in
       let e : x .from .last ≡ x .by .lender = eqb-true _ _ (fst (eqb (x .from .last) (x .by .lender)) _ (x .follows)) in
       let a : 1 ≤ x .from .allowance = leb-true 1 _ (snd (eqb (x .from .last) (x .by .lender)) _ (x .follows)) in
@@ -160,6 +168,8 @@ module _ (j : Journal) (o r : ℕ) where
         ap (λ (l : Loan). l .item) q ∙ m .0,
         ap (λ (l : Loan). l .right) q
             ∙ m .1,
+        ap (λ (l : Loan). carries (j .shift) (l .last)) q
+            ∙ snd (eqb (f .0 .item) o && eqb (f .0 .right) r) _ u,
       ) c′)
     where
       moved : (ps : List ℕ) {p q a b : ℕ} → p ≡ q → a ≡ b → JournalChain j o r ps p a → JournalChain j o r ps q b
@@ -180,10 +190,10 @@ module _ (j : Journal) (o r : ℕ) where
   )
   chain-route (lent {ps} {a} l s c) =
       let x = chain-route c in
-      let in-key : any (sameLoan l) (keep (λ m. eqb (m .item) o && eqb (m .right) r) (j .loans)) ≡ true
-      = any-keep (sameLoan l) (λ m. eqb (m .item) o && eqb (m .right) r) (j .loans)
-      ∙ any-same (λ m. (eqb (m .item) o && eqb (m .right) r) && sameLoan l m) sameLoan same-loan l (j .loans) (s .0)
-      (both (both (eq-eqb (l .item) o (s .1)) (eq-eqb (l .right) r (s .2))) (loan-self l)) in (
+      let in-key : any (sameLoan l) (keep (serves j o r) (j .loans)) ≡ true
+      = any-keep (sameLoan l) (serves j o r) (j .loans)
+      ∙ any-same (λ m. serves j o r m && sameLoan l m) sameLoan same-loan l (j .loans) (s .0)
+      (both (both (both (eq-eqb (l .item) o (s .1)) (eq-eqb (l .right) r (s .2))) (s .3)) (loan-self l)) in (
         suc (x .0),
         simp length-append (omega (arith, x .1)),
         subst (λ (b : ℕ). any (sameRoute (route (ps ++ (l .borrower ∷ [])) (l .borrower) (min b (l .depth))))
@@ -331,7 +341,7 @@ same-outcomes f g q (x ∷ es) h e =
     ap₂ (λ (y : Said) (ys : List Said). y ∷ ys) (e x (fst (q x) (all q es) h)) (same-outcomes f g q es (snd (q x) (all q es) h) e)
 
 all-settled : all settled examples ≡ true
-unfolding fresh base examples any all keep add extended routes routesTo highest best
+unfolding fresh base lentFor2 carries examples any all keep add extended routes routesTo highest best
 all-settled = refl
 
 -- E1 to E12, of the chain unit
@@ -354,7 +364,7 @@ flat-says cs (checks p) =
     (ap (λ b. cond b flatYes no) (a .list .yes p 9 1), ap (λ b. cond b flatYes no) (a .row .yes p 9 1))
 
 flat-expected : map flatOutcome examples ≡ map (λ (e : Example). e .flat) examples
-unfolding fresh base examples any keep add
+unfolding fresh base lentFor2 carries examples any keep add
 flat-expected = refl
 
 same-flat : (f : Example → Said) → ((e : Example) → f e ≡ flatOutcome e) → map f examples ≡ map (λ (e : Example). e .flat) examples

@@ -1,15 +1,15 @@
--- Document 01's handover examples E1 to E12, as one table over the journal.
+-- Document 01's handover examples E1 to E12, as one table over the journal, and document 02's shifts in rows of their own.
 use mathlib.Core.Bool.{Bool, _&&_, cond}
 use mathlib.Core.List.{List, [], _∷_, _++_, map}
 use Prim.Native.Nat.{ℕ, zero, suc, _-_, min, max}
 use lib.ListN.{take, replicate}
 use lib.Dec.{eqb, leb}
 use Rattle.model.specs.declared.Command.{Command}
-use Rattle.model.specs.declared.Command.the-variants.{Create, Delete, Allow, Withdraw, Lend, Recall}
+use Rattle.model.specs.declared.Command.the-variants.{Create, Delete, Allow, Withdraw, Lend, Recall, Shift}
 use Rattle.bits.specs.Sets.{keep}
 use Rattle.model.specs.Answers.{Found, flat}
 use Rattle.layouts.specs.Machine.{answerOf}
-use Rattle.model.specs.Journal.{Grant, Loan, Journal, answered, hasGrant, fresh, run}
+use Rattle.model.specs.Journal.{Grant, Loan, Journal, carries, answered, hasGrant, fresh, run}
 use Rattle.layouts.specs.Layouts.{Layout, flatUnit, checkYes, lists, rows}
 use Rattle.delegation.specs.ChainUnit.{chainUnit, chainFound, chainBuffer}
 use Rattle.agreement.specs.Agreement.{Units, called, freshUnits, flatStep, fed}
@@ -42,10 +42,14 @@ extended [] ts = []
 extended (l ∷ ls) ts = map (onward l) (keep (extends l) ts) ++ extended ls ts
 
 module _ (j : Journal) (o r : ℕ) where
+  -- a loan on that item and right that carries
+  abbrev pub serves : Loan → Bool
+  serves l = eqb (l .item) o && eqb (l .right) r && carries (j .shift) (l .last)
+
   -- those with k loans, on item o and right r
   unfoldable pub routes : ℕ → List Route
   routes zero = map start (keep (λ (g : Grant). eqb (g .item) o && eqb (g .right) r) (j .grants))
-  routes (suc k) = extended (keep (λ (l : Loan). eqb (l .item) o && eqb (l .right) r) (j .loans)) (routes k)
+  routes (suc k) = extended (keep serves (j .loans)) (routes k)
 
   -- all with at most n loans
   unfoldable pub routesTo : ℕ → List Route
@@ -99,7 +103,11 @@ row cs q s f = record { first = cs; question = q; expected = s; flat = f }
 
 -- 'Base: 0 creates 3, 4, 5, 9; allows 3 on 9, right 1, depth 2; 3 lends to 4 depth 1; 4 lends to 5 depth 0'
 unfoldable pub base : List Command
-base = Create 0 3 ∷ Create 0 4 ∷ Create 0 5 ∷ Create 0 9 ∷ Allow 0 3 9 1 2 ∷ Lend 3 4 9 1 1 ∷ Lend 4 5 9 1 0 ∷ []
+base = Create 0 3 ∷ Create 0 4 ∷ Create 0 5 ∷ Create 0 9 ∷ Allow 0 3 9 1 2 ∷ Lend 3 4 9 1 1 0 ∷ Lend 4 5 9 1 0 0 ∷ []
+
+-- in shift 2, 3 lends to 0 with last shift 2
+unfoldable pub lentFor2 : List Command
+lentFor2 = Shift 0 2 ∷ Lend 3 0 9 1 1 2 ∷ []
 
 -- the paper's examples, a row each, in its order
 unfoldable pub examples : List Example
@@ -109,15 +117,15 @@ examples =
     ∷ row [] (checks 4) (yes 1 ((3 ∷ 4 ∷ []) ∷ [])) no
     ∷ row [] (checks 0) no no
     -- E4
-    ∷ row [] (asks (Recall 3 4 9 1 0)) (number 0) passed
-    ∷ row (Recall 3 4 9 1 0 ∷ []) (checks 4) (yes 1 ((3 ∷ 4 ∷ []) ∷ [])) no
+    ∷ row [] (asks (Recall 3 4 9 1 0 0)) (number 0) passed
+    ∷ row (Recall 3 4 9 1 0 0 ∷ []) (checks 4) (yes 1 ((3 ∷ 4 ∷ []) ∷ [])) no
     -- E5
     ∷ row [] (asks (Withdraw 0 3 9 1)) (number 0) (number 0)
     ∷ row (Withdraw 0 3 9 1 ∷ []) (checks 5) no no
     ∷ row (Withdraw 0 3 9 1 ∷ Allow 0 3 9 1 1 ∷ []) (checks 4) (yes 0 ((3 ∷ 4 ∷ []) ∷ [])) no
     ∷ row (Withdraw 0 3 9 1 ∷ Allow 0 3 9 1 1 ∷ []) (checks 5) no no
     -- E6
-    ∷ row (Lend 3 5 9 1 5 ∷ []) (checks 5) (yes 1 ((3 ∷ 5 ∷ []) ∷ [])) no
+    ∷ row (Lend 3 5 9 1 5 0 ∷ []) (checks 5) (yes 1 ((3 ∷ 5 ∷ []) ∷ [])) no
     -- E7
     ∷ row (Delete 0 4 ∷ Create 0 4 ∷ []) (checks 4) no no
     -- E8 and E9
@@ -132,6 +140,35 @@ examples =
     ∷ row [] (checks 3) (yes 2 ((3 ∷ []) ∷ [])) flatYes
     ∷ row (Withdraw 0 3 9 1 ∷ []) (checks 3) no no
     ∷ row (Withdraw 0 3 9 1 ∷ Allow 0 3 9 1 1 ∷ []) (checks 3) (yes 1 ((3 ∷ []) ∷ [])) flatYes
+    -- 'A loan carries only while open-ended or not past its last shift': in its last shift, not in the next; open-ended in any
+    ∷ row lentFor2 (checks 0) (yes 1 ((3 ∷ 0 ∷ []) ∷ [])) no
+    ∷ row (lentFor2 ++ (Shift 0 3 ∷ [])) (checks 0) no no
+    ∷ row (Shift 0 255 ∷ []) (checks 4) (yes 1 ((3 ∷ 4 ∷ []) ∷ [])) no
+    -- '13, for lend only, when last is set and below the present shift': at its boundary, of a standing loan too, and not of recall
+    ∷ row (Shift 0 2 ∷ []) (asks (Lend 3 0 9 1 1 2)) (number 0) passed
+    ∷ row (Shift 0 2 ∷ []) (asks (Lend 3 0 9 1 1 1)) (number 13) passed
+    ∷ row (Shift 0 2 ∷ []) (asks (Lend 3 0 9 1 1 0)) (number 0) passed
+    ∷ row (lentFor2 ++ (Shift 0 3 ∷ [])) (asks (Lend 3 0 9 1 1 2)) (number 13) passed
+    ∷ row (lentFor2 ++ (Shift 0 3 ∷ [])) (asks (Recall 3 0 9 1 1 2)) (number 0) passed
+    ∷ row (Shift 0 2 ∷ []) (asks (Lend 3 0 9 0 1 1)) (number 9) passed
+    -- '12 when the new shift is below the present one and such a loan stands': at its boundary, of a loan that is past too, after 8
+    ∷ row lentFor2 (asks (Shift 0 2)) (number 0) passed
+    ∷ row lentFor2 (asks (Shift 0 1)) (number 12) passed
+    ∷ row (lentFor2 ++ (Shift 0 3 ∷ [])) (asks (Shift 0 2)) (number 12) passed
+    ∷ row lentFor2 (asks (Shift 3 1)) (number 8) passed
+    ∷ row lentFor2 (asks (Shift 7 1)) (number 4) passed
+    -- 'The shift may start again lower once no loan with a last shift stands'
+    ∷ row (Shift 0 2 ∷ []) (asks (Shift 0 1)) (number 0) passed
+    ∷ row (lentFor2 ++ (Shift 0 3 ∷ Recall 3 0 9 1 1 2 ∷ [])) (asks (Shift 0 1)) (number 0) passed
+    -- the same loan with two last shifts is two loans
+    ∷ row (lentFor2 ++ (Lend 3 0 9 1 1 3 ∷ Shift 0 3 ∷ [])) (checks 0) (yes 1 ((3 ∷ 0 ∷ []) ∷ [])) no
+    ∷ row (lentFor2 ++ (Lend 3 0 9 1 1 3 ∷ Recall 3 0 9 1 1 2 ∷ [])) (checks 0) (yes 1 ((3 ∷ 0 ∷ []) ∷ [])) no
+    ∷ row (lentFor2 ++ (Lend 3 0 9 1 1 3 ∷ Recall 3 0 9 1 1 3 ∷ Shift 0 3 ∷ [])) (checks 0) no no
+    -- 'Number 3 also covers a shift above 255'
+    ∷ row [] (asks (Lend 3 0 9 1 1 255)) (number 0) passed
+    ∷ row [] (asks (Lend 3 0 9 1 1 256)) (number 3) passed
+    ∷ row [] (asks (Recall 3 0 9 1 1 256)) (number 3) passed
+    ∷ row [] (asks (Shift 0 256)) (number 3) passed
     ∷ []
 
 -- what the journal says after an example's commands

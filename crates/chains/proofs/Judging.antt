@@ -2,11 +2,11 @@
 use mathlib.Core.Path.{_≡_, refl, ap, _∙_}
 use mathlib.Core.Bool.{Bool, true, false, not, _&&_, cond}
 use mathlib.Core.List.{List, []}
-use Prim.Native.Nat.{ℕ, _≤_}
+use Prim.Native.Nat.{ℕ, _%_, _≤_}
 use native.Mathlib.Omega.{arith}
 use borrow.Author.Tests.{eq-eqb, ne-eqb, eqb-true, leb-true}
 use lib.ListN.{length, getD}
-use lib.Dec.{eqb, leb}
+use lib.Dec.{eqb, leb, ltb}
 use Rattle.model.specs.declared.Facts.{Facts}
 use Rattle.model.specs.declared.Item.{Item}
 use Rattle.model.specs.declared.Right.{Right}
@@ -16,15 +16,15 @@ use Rattle.model.specs.declared.Typed.{Typed}
 use Rattle.model.specs.declared.Answer.{Answer}
 use Rattle.model.specs.declared.Answer.the-variants as is
 use Rattle.bits.specs.Sets.{any}
-use Rattle.model.specs.Commands.{mostLoans, Ranged, rawOf}
+use Rattle.model.specs.Commands.{shifts, mostLoans, Ranged, rawOf}
 use Rattle.model.specs.Answers.{numberOf}
-use Rattle.model.specs.Journal.{loanIn}
+use Rattle.model.specs.Journal.{carries, loanIn}
 use Rattle.layouts.specs.declared.admit.CommandAdmission.the-variants as command
 use Rattle.layouts.specs.declared.admit.CheckAdmission.the-variants as check
 use Rattle.layouts.specs.Admission.{commandAdmission, checkAdmission}
 use Rattle.layouts.specs.Live.{masksOf}
 use Rattle.layouts.specs.Layouts.{grantBytes, grantCells, liveIn, held, inOrder, freshImage, freshOf}
-use Rattle.delegation.specs.Loans.{wordOf, cut, loanWords, countOf, used, freshHeader, loansImage, loansInOrder}
+use Rattle.delegation.specs.Loans.{wordOf, cut, wordDated, loanWords, countOf, shiftIn, used, freshHeader, loansImage, loansInOrder}
 use Rattle.delegation.specs.Images.{Images, images}
 use Rattle.delegation.specs.ChainUnit.{chainUnit, chainInOrder, chainSized, chainGuarded, chainFacts, chainFresh, ChainFreshens, ChainInspects}
 use Rattle.bits.proofs.Sets.{fst, snd}
@@ -99,11 +99,15 @@ module _ (g t : List ℕ) where
 pub loan-word-is : (a : Arguments) (w : ℕ) → Ranged a → w ≡ wordOf (cut (loanIn a)) → w ≡ wordOf (loanIn a)
 loan-word-is a w g e = e ∙ ap wordOf (cut-none a g)
 
-pub facts-are : (s : Images) (a : Arguments) (r w : ℕ) (x y z h f : Bool) → r ≡ 0 → w ≡ wordOf (loanIn a)
+pub facts-are : (s : Images) (a : Arguments) (r w : ℕ) (x y z h b q f : Bool) → r ≡ 0 → w ≡ wordOf (loanIn a)
     → x ≡ liveIn grantBytes (s .grants) (a .by) → y ≡ liveIn grantBytes (s .grants) (a .on) → z ≡ liveIn grantBytes (s .grants) (a .to)
-    → h ≡ held grantBytes (s .grants) (a .by) (a .on) r → f ≡ (leb mostLoans (countOf (s .loans)) && not (any (eqb w) (used (s .loans))))
-    → _≡_ {A = Facts} (record { by = x; on = y; to = z; edits = h; full = f }) (chainFacts s a)
-facts-are s a r w x y z h f er ew ex ey ez eh ef = rw (ex, ey, ez, eh, ef, er, ew)
+    → h ≡ held grantBytes (s .grants) (a .by) (a .on) r
+    → b ≡ (ltb (a .shift) (shiftIn (s .loans) % 256) && any wordDated (used (s .loans)))
+    → q ≡ not (carries (shiftIn (s .loans) % 256) (a .shift)) → shiftIn (s .loans) ≤ 255
+    → f ≡ (leb mostLoans (countOf (s .loans)) && not (any (eqb w) (used (s .loans))))
+    → _≡_ {A = Facts} (record { by = x; on = y; to = z; edits = h; back = b; past = q; full = f }) (chainFacts s a)
+facts-are s a r w x y z h b q f er ew ex ey ez eh eb eq low ef =
+    let m : shiftIn (s .loans) % 256 ≡ shiftIn (s .loans) = omega arith in rw (ex, ey, ez, eh, eb, eq, ef, er, ew, m)
 
 -- ---- past numbers 1 to 3
 pub ready : (s : Images) (c : Command) (order : Answer) → numberOf order ≡ chainGuarded s true 0 → (t : Typed)
@@ -115,12 +119,14 @@ ready s c order e t h =
     record { grants = p .0; loans = p .1; ordered = p .3; ranged = m .1 }
 
 -- ---- a check
--- images in order hold at most 1,024 loans
-pub counted : (s : Images) → chainInOrder s ≡ true → countOf (s .loans) ≤ mostLoans
+-- images in order are at a shift within its limit, and hold at most 1,024 loans
+pub counted : (s : Images) → chainInOrder s ≡ true → (shiftIn (s .loans) ≤ 255) × (countOf (s .loans) ≤ mostLoans)
 unfolding loansInOrder
 counted s e =
-    leb-true _ _ (let k = snd (inOrder grantBytes (s .grants)) (loansInOrder (liveIn grantBytes (s .grants)) (s .loans)) e in
-    search (fst, snd))
+    let k = snd (inOrder grantBytes (s .grants)) (loansInOrder (liveIn grantBytes (s .grants)) (s .loans)) e in
+    let a : shifts (shiftIn (s .loans)) ≡ true = search (fst, snd) in
+    let b : leb (countOf (s .loans)) mostLoans ≡ true = search (fst, snd) in
+    (leb-true _ _ a, leb-true _ _ b)
 
 pub in-shape : (s : Images) (buffer : List ℕ) (p o r : ℕ) (order : Answer) → numberOf order ≡ chainGuarded s (eqb (length buffer) 8) 0
     → (x y : Item) (z : Right) → check.Ready x y z ≡ checkAdmission order p o r
@@ -132,7 +138,8 @@ in-shape s buffer p o r order e x y z h =
     record {
       grants = q .0;
       loans = q .1;
-      count = counted s (q .3);
+      shift = counted s (q .3) .0;
+      count = counted s (q .3) .1;
       person = omega arith;
       item = omega arith;
       rights = omega arith;

@@ -1,5 +1,5 @@
-// The chain unit: grants with depths in an image of 32,776 bytes, loans in an image of 1,025 words, the six commands over both, and the
-// check that follows loans through anyone with depth left.
+// The chain unit: grants with depths in an image of 32,776 bytes, the shift and the loans in an image of 1,025 words, the seven commands
+// over both, and the check that follows carrying loans through anyone with depth left.
 use delegation::loan;
 use grants::Grants;
 use layouts::admit;
@@ -14,21 +14,23 @@ use model::Command;
 use model::Facts;
 use model::Item;
 use model::Right;
+use model::Shift;
 use model::Typed;
 use model::Verb;
 use model::judge;
 ghost use mathlib.Core.Path.{_≡_};
 ghost use mathlib.Core.Bool.{true, not};
-ghost use Prim.Native.Nat.{_<_};
+ghost use Prim.Native.Nat.{_≤_, _<_};
 ghost use lib.Dec.{eqb};
 ghost use lib.ListN.{length};
 ghost use Rattle.model.specs.declared.Command.the-variants.{Create, Delete, Allow, Withdraw, Lend, Recall};
+ghost use Rattle.model.specs.declared.Command.the-variants as command;
 ghost use Rattle.model.specs.Commands.{Ranged, rawOf};
 ghost use Rattle.model.specs.Answers.{numberOf};
 ghost use Rattle.layouts.specs.Machine.{Judged, Ran};
 ghost use Rattle.model.specs.Journal.{loanIn};
 ghost use Rattle.layouts.specs.Layouts.{grantCells};
-ghost use Rattle.delegation.specs.Loans.{wordOf, loanWords, loansKept};
+ghost use Rattle.delegation.specs.Loans.{wordOf, loanWords, loansKept, loansAt};
 ghost use Rattle.delegation.specs.Images.{images};
 ghost use Rattle.delegation.specs.ChainUnit.{chainUnit, chainGuarded, chainFacts, chainAfter, ChainChecks, ChainInspects, ChainFreshens};
 ghost use Rattle.chains.specs.Ready.{Ready, Accepted, withoutItem};
@@ -86,7 +88,8 @@ fn loan_word(t: Typed) -> u32
     let right = t.right;
     let to = t.to;
     let depth = t.depth;
-    loan::word(by, on, right, to, depth)
+    let last = t.shift;
+    loan::word(by, on, right, to, depth, last)
 }
 
 // What the table of answers asks of the images.
@@ -104,6 +107,8 @@ fn facts(grants: &[u8], loans: &[u32], t: Typed) -> Facts
         on: live::is_live(grants, on),
         to: live::is_live(grants, to),
         edits: grants::holds(grants, by, on, edit),
+        back: loans::shift::goes_back(loans, t.shift),
+        past: loans::shift::is_past(loans, t.shift),
         full: loans::is_full(loans, w),
     }
 }
@@ -126,6 +131,14 @@ fn drop_loan(loans: &mut [u32], w: u32)
     loans::retain(loans, Rule::Other(w));
 }
 
+// The shift into the image.
+fn set_shift(loans: &mut [u32], to: Shift)
+    requires { ⌜ (length (now loans) ≡ loanWords) × (to .0 ≤ 255) ⌝ }
+    ensures { λ _. ⌜ now (loans .exit) ≡ loansAt (to .0) (now (loans .entry)) ⌝ }
+{
+    loans::shift::set(loans, to);
+}
+
 // What an accepted command does.
 fn apply(grants: &mut [u8], loans: &mut [u32], t: Typed)
     requires { ⌜ Accepted (images (now grants) (now loans)) (rawOf t) ⌝ }
@@ -140,10 +153,11 @@ fn apply(grants: &mut [u8], loans: &mut [u32], t: Typed)
         Verb::Withdraw => grants::drop_grants(grants, t.to, t.on, t.right),
         Verb::Lend => loans::insert(loans, loan_word(t)),
         Verb::Recall => drop_loan(loans, loan_word(t)),
+        Verb::Shift => set_shift(loans, t.shift),
     }
 }
 
-// Numbers 4 to 10, and what follows.
+// Numbers 4 to 10, 12 and 13, and what follows.
 fn settle(grants: &mut [u8], loans: &mut [u32], t: Typed) -> Answer
     requires { ⌜ Ready (images (now grants) (now loans)) (rawOf t) ⌝ }
     ensures { λ r. ⌜ Judged chainUnit (images (now (grants .entry)) (now (loans .entry))) (rawOf t) (numberOf r)
@@ -232,8 +246,9 @@ pub fn lend(
     on: u32,
     right: u32,
     depth: u32,
+    last: u32,
 ) -> Answer
-    ensures { λ r. ⌜ Ran chainUnit (images (now (grants .entry)) (now (loans .entry))) (Lend by to on right depth) r
+    ensures { λ r. ⌜ Ran chainUnit (images (now (grants .entry)) (now (loans .entry))) (Lend by to on right depth last) r
         (images (now (grants .exit)) (now (loans .exit))) ⌝ }
 {
     offer(
@@ -245,6 +260,7 @@ pub fn lend(
             on,
             right,
             depth,
+            last,
         },
     )
 }
@@ -257,8 +273,9 @@ pub fn recall(
     on: u32,
     right: u32,
     depth: u32,
+    last: u32,
 ) -> Answer
-    ensures { λ r. ⌜ Ran chainUnit (images (now (grants .entry)) (now (loans .entry))) (Recall by to on right depth) r
+    ensures { λ r. ⌜ Ran chainUnit (images (now (grants .entry)) (now (loans .entry))) (Recall by to on right depth last) r
         (images (now (grants .exit)) (now (loans .exit))) ⌝ }
 {
     offer(
@@ -270,12 +287,20 @@ pub fn recall(
             on,
             right,
             depth,
+            last,
         },
     )
 }
 
-// Whether a chain of grants and loans leads to the person, with the greatest depth that any ends with, and one that does written into
-// the chain buffer.
+pub fn shift(grants: &mut [u8], loans: &mut [u32], by: u32, shift: u32) -> Answer
+    ensures { λ r. ⌜ Ran chainUnit (images (now (grants .entry)) (now (loans .entry))) (command.Shift by shift) r
+        (images (now (grants .exit)) (now (loans .exit))) ⌝ }
+{
+    offer(grants, loans, Command::Shift { by, now: shift })
+}
+
+// Whether a chain of grants and carrying loans leads to the person, with the greatest depth that any ends with, and one that does
+// written into the chain buffer.
 pub fn check(
     grants: &[u8],
     loans: &[u32],

@@ -1,18 +1,18 @@
 -- The chain unit's images are a function of the journal, and its commands follow it.
 use mathlib.Core.Path.{_≡_, refl, sym, ap, _∙_}
-use mathlib.Core.Bool.{Bool, true, false, not, cond, false≢true}
+use mathlib.Core.Bool.{Bool, true, false, not, _&&_, cond, false≢true}
 use mathlib.Core.List.{[]}
 use Prim.Native.Nat.{ℕ}
-use borrow.Author.Tests.{eqb-true, eq-eqb, le-leb, lt-ltb}
+use borrow.Author.Tests.{eqb-true, eq-eqb, le-leb}
 use lib.ListN.{length}
-use lib.Dec.{eqb, leb}
+use lib.Dec.{eqb, leb, ltb}
 use Rattle.model.specs.declared.Command.{Command}
 use Rattle.model.specs.declared.Arguments.{Arguments}
 use Rattle.model.specs.Commands.{argumentsOf, fits}
 use Rattle.layouts.specs.Machine.{answerOf, stepOf}
-use Rattle.model.specs.Journal.{Grant, Loan, Journal, loanIn, sameGrant, lives, standing, facts, answered, fresh, apply, step}
+use Rattle.model.specs.Journal.{Grant, Loan, Journal, loanIn, sameGrant, carries, isDated, lives, standing, facts, answered, fresh, apply, step}
 use Rattle.layouts.specs.Layouts.{grantBytes, grantCells, liveIn}
-use Rattle.delegation.specs.Loans.{wordOf, wordGood, loanWords, freshHeader, loansImage}
+use Rattle.delegation.specs.Loans.{wordOf, wordDated, wordGood, loanWords, freshHeader, loansImage}
 use Rattle.delegation.specs.Images.{images, standingIn}
 use Rattle.delegation.specs.ChainUnit.{chainGuarded, chainUnit, chainFacts, chainAfter, chainFresh}
 use Rattle.bits.proofs.Sets.{fst, snd, both, by-cases, find, any-cong, all-mono}
@@ -21,7 +21,7 @@ use Rattle.model.proofs.Invariant.{same-grant, loans-ranged}
 use Rattle.model.specs.Invariant.{ranged, sound, Inv, rangedLoan, soundLoan, LoanInv, Kept}
 use Rattle.model.proofs.Answers.{table-same}
 use Rattle.layouts.proofs.Layouts.{bytes-laws, place-same, live-of, bit-at-of, length-of, held-of, order-of, fresh-of}
-use Rattle.delegation.proofs.Loans.{word-fields, wordOf-lt, sorted, rising-sorted, all-sorted, word-in, used-of, count-of, length-loans, order-loans}
+use Rattle.delegation.proofs.Loans.{word-fields, sorted, rising-sorted, all-sorted, any-sorted, word-in, used-of, count-of, shift-of, length-loans, order-loans}
 use Rattle.delegation.proofs.Steps.{grantsOf, headerFor, imagesOf, few, few-sorted, chain-after}
 
 -- ---- in order
@@ -37,7 +37,7 @@ word-good j l h =
     let c′ : lives j (l .borrower) ≡ true = search (fst, snd) in
     let f = word-fields l r in
     rw (f .0, f .1, f .2, f .3)
-    (both (both (both (both (lt-ltb (wordOf l) 16777216 (wordOf-lt l r)) z) (live-of grantBytes bytes-laws j (l .lender) a ∙ a′))
+    (both (both (both z (live-of grantBytes bytes-laws j (l .lender) a ∙ a′))
     (live-of grantBytes bytes-laws j (l .item) b ∙ b′)) (live-of grantBytes bytes-laws j (l .borrower) c ∙ c′))
 
 pub guard-chain : (j : Journal) → Kept j → (n : ℕ) → chainGuarded (imagesOf j) true n ≡ n
@@ -47,7 +47,7 @@ guard-chain j v n =
       eq-eqb (length (grantsOf j)) grantCells (unfold grantBytes in (length-of grantBytes bytes-laws j)),
       eq-eqb (length (imagesOf j .loans)) loanWords (length-loans (headerFor j) (sorted (j .loans)) k),
       order-of grantBytes bytes-laws j (v .inv),
-      order-loans (liveIn grantBytes (grantsOf j)) (headerFor j) (sorted (j .loans)) k (rising-sorted (j .loans))
+      order-loans (liveIn grantBytes (grantsOf j)) (headerFor j) (sorted (j .loans)) (v .loan-inv .shift-in) k (rising-sorted (j .loans))
           (all-sorted _ (j .loans) (all-mono (soundLoan (lives j)) _ (j .loans) (v .loan-inv .loans-sound) (word-good j))),
     )
 
@@ -63,6 +63,18 @@ full-of j v a h =
           (j .loans) h (loans-ranged j v),
     )
 
+back-of : (j : Journal) → LoanInv j → (a : Arguments) → chainFacts (imagesOf j) a .back ≡ facts j a .back
+back-of j v a =
+    let k = few-sorted j v in
+    rw (shift-of (headerFor j) (sorted (j .loans)) k, used-of (headerFor j) (sorted (j .loans)) k)
+    (ap (λ b. ltb (a .shift) (j .shift) && b)
+    (any-sorted wordDated (j .loans)
+    ∙ any-cong (λ l. wordDated (wordOf l)) isDated rangedLoan (j .loans) (loans-ranged j v)
+    (λ l h. ap (λ (n : ℕ). not (eqb n 0)) (word-fields l h .5))))
+
+past-of : (j : Journal) → LoanInv j → (a : Arguments) → chainFacts (imagesOf j) a .past ≡ facts j a .past
+past-of j v a = ap (λ (n : ℕ). not (carries n (a .shift))) (shift-of (headerFor j) (sorted (j .loans)) (few-sorted j v))
+
 pub answer-chain : (j : Journal) → Kept j → (c : Command) → answerOf chainUnit (imagesOf j) c ≡ answered j c
 answer-chain j v c =
     let a = argumentsOf c in
@@ -72,7 +84,7 @@ answer-chain j v c =
     rw t (table-same (chainFacts (imagesOf j) a) (facts j a) (live-of grantBytes bytes-laws j _ (le-leb _ 63 (r .by)))
     (live-of grantBytes bytes-laws j _ (le-leb _ 63 (r .on))) (live-of grantBytes bytes-laws j _ (le-leb _ 63 (r .to)))
     (held-of grantBytes bytes-laws j (v .inv) _ _ 0 (both (both (le-leb _ 63 (r .by)) (le-leb _ 63 (r .on))) refl)) a
-    (λ n. full-of j (v .loan-inv) a t)))
+    (λ n. back-of j (v .loan-inv) a) (λ n. past-of j (v .loan-inv) a) (λ n. full-of j (v .loan-inv) a t)))
     (λ t. rw t)
 
 pub step-chain : (j : Journal) → Kept j → (c : Command) → stepOf chainUnit (imagesOf j) c ≡ imagesOf (step j c)
@@ -84,7 +96,7 @@ step-chain j v c = rw (answer-chain j v c) (go (eqb (answered j c) 0) refl)
     go false e = refl
 
 pub fresh-chain : chainFresh ≡ imagesOf fresh
-unfolding chainFresh fresh sorted
+unfolding chainFresh fresh sorted freshHeader
 fresh-chain = ap (λ g. images g (loansImage freshHeader [])) (fresh-of grantBytes bytes-laws)
 
 -- ---- what stands in the images stands in the journal

@@ -5,3 +5,4 @@ pub mod ChainEnds
 pub mod Rules
 pub mod Steps
 pub mod ChainUnit
+pub mod Plain

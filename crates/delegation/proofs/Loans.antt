@@ -1,8 +1,8 @@
 -- The loans of a journal as rising words.
 use mathlib.Core.Path.{_≡_, refl, sym, ap, _∙_, ap₂}
 use mathlib.Core.Bool.{Bool, true, false, not, _||_, cond, false≢true}
-use mathlib.Core.List.{List, [], _∷_}
-use Prim.Native.Nat.{ℕ, zero, suc, _-_, _≤_, _<_}
+use mathlib.Core.List.{List, [], _∷_, _++_}
+use Prim.Native.Nat.{ℕ, zero, suc, _+_, _-_, _*_, _/_, _%_, _≤_, _<_}
 use native.Mathlib.Omega.{arith}
 use borrow.Author.Tests.{eqb-true, eq-eqb, leb-true, le-leb, not-true}
 use lib.ListN.{length, getD, drop, replicate, length-append, length-replicate, take, length-drop, take-append-drop}
@@ -11,7 +11,7 @@ use lib.Dec.{eqb}
 use Rattle.bits.specs.Sets.{any, all, keep, add}
 use Rattle.model.specs.Commands.{mostLoans}
 use Rattle.model.specs.Journal.{Loan, loan, sameLoan, loanNames}
-use Rattle.delegation.specs.Loans.{lender, loanItem, loanRight, borrower, loanDepth, wordNames, wordOf, loanOf, rising, insert, loanWords, headerOf, headerWord, recounted, headerIn, loansImage, loansWith, loansKept, used, wordGood, loansInOrder, countOf}
+use Rattle.delegation.specs.Loans.{lastShift, lender, loanItem, loanRight, borrower, loanDepth, wordNames, wordOf, loanOf, rising, insert, loanWords, headerOf, headerWord, recounted, movedTo, headerIn, loansImage, loansWith, loansKept, loansAt, used, wordGood, loansInOrder, countOf, shiftIn}
 use Rattle.delegation.specs.declared.loan.Header.{Header}
 use Rattle.bits.proofs.Sets.{iff, fst, snd, both, any-cong}
 use Rattle.model.proofs.Invariant.{same-loan, loan-self}
@@ -20,30 +20,37 @@ use Rattle.delegation.proofs.Rising.{any-insert, all-insert, rising-ins
 
 -- ---- a loan and its word
 loan-le : (l : Loan) → rangedLoan l ≡ true → (l .lender ≤ 63) × (l .item ≤ 63) × (l .right ≤ 7) × (l .borrower ≤ 63) × (l .depth ≤ 7)
+    × (l .last ≤ 255)
 loan-le l h = search (fst, snd, leb-true)
 
 -- the fields of a loan's word
 pub word-fields : (l : Loan) → rangedLoan l ≡ true
     → (lender (wordOf l) ≡ l .lender) × (loanItem (wordOf l) ≡ l .item) × (loanRight (wordOf l) ≡ l .right)
-    × (borrower (wordOf l) ≡ l .borrower) × (loanDepth (wordOf l) ≡ l .depth)
+    × (borrower (wordOf l) ≡ l .borrower) × (loanDepth (wordOf l) ≡ l .depth) × (lastShift (wordOf l) ≡ l .last)
 unfolding wordOf
-word-fields l h = let b = loan-le l h in (omega arith, omega arith, omega arith, omega arith, omega arith)
+word-fields l h = let b = loan-le l h in (omega arith, omega arith, omega arith, omega arith, omega arith, omega arith)
 
 pub loanOf-wordOf : (l : Loan) → rangedLoan l ≡ true → loanOf (wordOf l) ≡ l
 unfolding loanOf
 loanOf-wordOf l h =
     let f = word-fields l h in
     let r : loan (lender (wordOf l)) (loanItem (wordOf l)) (loanRight (wordOf l)) (borrower (wordOf l)) (loanDepth (wordOf l))
-    ≡ loan (l .lender) (l .item) (l .right) (l .borrower) (l .depth)
-    = rw (f .0, f .1, f .2, f .3, f .4) in
+    (lastShift (wordOf l))
+    ≡ loan (l .lender) (l .item) (l .right) (l .borrower) (l .depth) (l .last)
+    = rw (f .0, f .1, f .2, f .3, f .4, f .5) in
     r
 
 pub word-names : (i : ℕ) (l : Loan) → rangedLoan l ≡ true → wordNames i (wordOf l) ≡ loanNames i l
 word-names i l h = let f = word-fields l h in rw (f .0, f .1, f .3)
 
-pub wordOf-lt : (l : Loan) → rangedLoan l ≡ true → wordOf l < 16777216
+pub wordOf-lt : (l : Loan) → rangedLoan l ≡ true → wordOf l < 4294967296
 unfolding wordOf
 wordOf-lt l h = omega (arith, loan-le l h)
+
+-- of an open-ended loan it is the word that document 01 has
+pub open-word : (l : Loan) → l .last ≡ 0 → wordOf l ≡ l .lender * 262144 + l .item * 4096 + l .right * 512 + l .borrower * 8 + l .depth
+unfolding wordOf
+open-word l e = omega arith
 
 -- equal words are of equal loans
 pub word-same : (l m : Loan) → rangedLoan l ≡ true → rangedLoan m ≡ true → eqb (wordOf l) (wordOf m) ≡ sameLoan l m
@@ -123,11 +130,19 @@ header-read t = refl
 module _ (h : Header) (ws : List ℕ) where
   pub header-of : length ws ≤ mostLoans → headerIn (loansImage h ws) ≡ recounted h (length ws)
   unfolding headerIn headerOf headerWord recounted loansImage
-  header-of few = refl
+  header-of few =
+      let n : ℕ = h .shift * 65536 + length ws in
+      let a : n / 65536 ≡ h .shift = omega arith in
+      let b : n % 65536 ≡ length ws = omega arith in
+      λ i. record { shift = a i; count = b i }
 
   pub count-of : length ws ≤ mostLoans → countOf (loansImage h ws) ≡ length ws
   unfolding recounted
   count-of few = ap (λ (x : Header). x .count) (header-of few)
+
+  pub shift-of : length ws ≤ mostLoans → shiftIn (loansImage h ws) ≡ h .shift
+  unfolding recounted
+  shift-of few = ap (λ (x : Header). x .shift) (header-of few)
 
   pub used-of : length ws ≤ mostLoans → used (loansImage h ws) ≡ ws
   unfolding used loansImage
@@ -143,14 +158,18 @@ module _ (h : Header) (ws : List ℕ) where
 
   -- with other loans under the same header
   pub same-header : length ws ≤ mostLoans → (vs : List ℕ) → loansImage (headerIn (loansImage h ws)) vs ≡ loansImage h vs
-  unfolding headerIn headerOf headerWord recounted loansImage
-  same-header few vs = refl
+  unfolding recounted loansImage
+  same-header few vs = ap (λ (x : Header). loansImage x vs) (header-of few)
 
   pub kept-of : length ws ≤ mostLoans → (p : ℕ → Bool) → loansKept p (loansImage h ws) ≡ loansImage h (keep p ws)
   kept-of few p = same-header few _ ∙ ap (λ l. loansImage h (keep p l)) (used-of few)
 
   pub with-of : length ws ≤ mostLoans → (w : ℕ) → loansWith w (loansImage h ws) ≡ loansImage h (insert w ws)
   with-of few w = same-header few _ ∙ ap (λ l. loansImage h (insert w l)) (used-of few)
+
+  pub at-of : length ws ≤ mostLoans → (n : ℕ) → loansAt n (loansImage h ws) ≡ loansImage (movedTo h n) ws
+  unfolding loansAt loansImage movedTo recounted
+  at-of few n = ap (λ (x : Header). headerWord (movedTo x n) ∷ (ws ++ replicate (mostLoans - length ws) 0)) (header-of few)
 
 zeros : (n : ℕ) → all (eqb 0) (replicate n 0) ≡ true
 unfolding all
@@ -164,29 +183,32 @@ zeros-are (x ∷ xs) h =
     ap₂ (λ (y : ℕ) (ys : List ℕ). y ∷ ys) (sym (eqb-true 0 x (fst (eqb 0 x) (all (eqb 0) xs) h)))
     (zeros-are xs (snd (eqb 0 x) (all (eqb 0) xs) h))
 
-pub order-loans : (f : ℕ → Bool) (h : Header) (ws : List ℕ) → length ws ≤ mostLoans → rising ws ≡ true → all (wordGood f) ws ≡ true
-    → loansInOrder f (loansImage h ws) ≡ true
+pub order-loans : (f : ℕ → Bool) (h : Header) (ws : List ℕ) → h .shift ≤ 255 → length ws ≤ mostLoans → rising ws ≡ true
+    → all (wordGood f) ws ≡ true → loansInOrder f (loansImage h ws) ≡ true
 unfolding loansInOrder
-order-loans f h ws few r g =
-    rw (count-of h ws few, used-of h ws few)
-    (both (both (both (le-leb _ _ few) r) g) (ap (all (eqb 0)) (rest h ws) ∙ zeros (mostLoans - length ws)))
+order-loans f h ws low few r g =
+    rw (shift-of h ws few, count-of h ws few, used-of h ws few)
+    (both (both (both (both (le-leb _ _ low) (le-leb _ _ few)) r) g) (ap (all (eqb 0)) (rest h ws) ∙ zeros (mostLoans - length ws)))
 
 image-of : (t : List ℕ) → length t ≡ loanWords → countOf t ≤ mostLoans → all (eqb 0) (drop (suc (countOf t)) t) ≡ true
     → t ≡ loansImage (headerIn t) (used t)
 unfolding headerIn headerOf headerWord recounted used loansImage
 image-of [] l few z = absurd (omega arith)
 image-of (n ∷ s) l few z =
-    let k : length (take n s) ≡ n = length-take-le n s (omega arith) in
-    let q : drop n s ≡ replicate (mostLoans - n) 0 = zeros-are (drop n s) z
-    ∙ (let e : length (drop n s) ≡ mostLoans - n = simp length-drop (omega arith) in rw e) in
-    rw k (ap (λ (l : List ℕ). n ∷ l) (sym (take-append-drop n s) ∙ rw q))
+    let c : ℕ = n % 65536 in
+    let k : length (take c s) ≡ c = length-take-le c s (omega arith) in
+    let q : drop c s ≡ replicate (mostLoans - c) 0 = zeros-are (drop c s) z
+    ∙ (let e : length (drop c s) ≡ mostLoans - c = simp length-drop (omega arith) in rw e) in
+    let w : n ≡ n / 65536 * 65536 + c = omega arith in
+    rw k (ap₂ (λ (x : ℕ) (l : List ℕ). x ∷ l) w (sym (take-append-drop c s) ∙ rw q))
 
--- a loans image in order is that of its loans in use
+-- a loans image in order is that of its loans in use, and its shift is within its limit
 pub order-image : (f : ℕ → Bool) (t : List ℕ) → length t ≡ loanWords → loansInOrder f t ≡ true
-    → (countOf t ≤ mostLoans) × (rising (used t) ≡ true) × (t ≡ loansImage (headerIn t) (used t))
+    → (countOf t ≤ mostLoans) × (rising (used t) ≡ true) × (t ≡ loansImage (headerIn t) (used t)) × (shiftIn t ≤ 255)
 unfolding loansInOrder
 order-image f t l h =
     let few : countOf t ≤ mostLoans = leb-true (countOf t) mostLoans (search (fst, snd)) in
     let r : rising (used t) ≡ true = search (fst, snd) in
     let z : all (eqb 0) (drop (suc (countOf t)) t) ≡ true = search (fst, snd) in
-    (few, r, image-of t l few z)
+    let low : shiftIn t ≤ 255 = leb-true (shiftIn t) 255 (search (fst, snd)) in
+    (few, r, image-of t l few z, low)

@@ -12,7 +12,7 @@ use Rattle.model.specs.Journal.{grant}
 use Rattle.layouts.specs.Layouts.{Layout, depths, liveIn, grantBit, held, inOrder, grantBytes, checkNumber, checkYes}
 use Rattle.model.specs.Chain.{Access, Greatest, Meets}
 use Rattle.delegation.specs.Loans.{lender, borrower, loanDepth, loansInOrder}
-use Rattle.delegation.specs.Images.{Images, standingIn, LentIn, ImageChain}
+use Rattle.delegation.specs.Images.{Images, standingIn, WordCarries, ImageChain}
 use Rattle.delegation.specs.Search.{foundOf}
 use Rattle.delegation.specs.ChainUnit.{chainSized, chainInOrder, chainCheckNumber, chainFound, chainBuffer}
 use Rattle.bits.proofs.Sets.{fst, snd, both, by-cases, find}
@@ -22,16 +22,16 @@ use Rattle.layouts.specs.Laws.{Laws}
 use Rattle.layouts.proofs.Layouts.{small, order-live}
 use Rattle.delegation.proofs.Search.{meets, dead-no}
 
--- what the four rules derive from the grants and loans of the images
+-- what the four rules derive from the grants and carrying loans of the images
 abbrev pub ImageAccess : Images → ℕ → ℕ → ℕ → ℕ → Type 0
-ImageAccess s = Access lender borrower loanDepth (λ p o r d. standingIn (s .grants) (grant p o r d) ≡ true) (LentIn (s .loans))
+ImageAccess s = Access lender borrower loanDepth (λ p o r d. standingIn (s .grants) (grant p o r d) ≡ true) (WordCarries (s .loans))
 
 -- the search alone, of any images, in order or not
 pub search-decides : (s : Images) → ((i : ℕ) → getD (s .grants) i 0 < 256) → (p o r : ℕ) → p ≤ 63 → o ≤ 63 → r ≤ 7 → (d : ℕ)
     → ImageAccess s p o r d ↔ (foundOf (s .grants) (s .loans) (8 * o + r) p .yes ≡ true)
     × (d ≤ foundOf (s .grants) (s .loans) (8 * o + r) p .depth)
 search-decides s bytes p o r hp ho hr d =
-    meets-access lender borrower loanDepth (λ p o r d. standingIn (s .grants) (grant p o r d) ≡ true) (LentIn (s .loans)) p o r
+    meets-access lender borrower loanDepth (λ p o r d. standingIn (s .grants) (grant p o r d) ≡ true) (WordCarries (s .loans)) p o r
     (meets s bytes p o r hp ho hr) d
 
 -- the check of person p on item o, right r
@@ -50,7 +50,7 @@ module _ (s : Images) (bytes : (i : ℕ) → getD (s .grants) i 0 < 256) (buffer
   pub rules-decide : (d : ℕ) → ImageAccess s p o r d ↔ (chainFound s buffer p o r .yes ≡ true) × (d ≤ chainFound s buffer p o r .depth)
   rules-decide d =
       meets-access lender borrower loanDepth (λ p o r d. standingIn (s .grants) (grant p o r d) ≡ true)
-      (LentIn (s .loans)) p o r check-meets d
+      (WordCarries (s .loans)) p o r check-meets d
 
   -- the greatest allowance exists when any does
   pub image-greatest : {ps : List ℕ} {a : ℕ} → ImageChain s o r ps p a → Greatest (λ qs b. ImageChain s o r qs p b)

@@ -20,9 +20,9 @@ use Rattle.model.specs.Journal.{grant}
 use Rattle.bits.specs.Cells.{at}
 use Rattle.layouts.specs.Layouts.{grantBytes, liveIn, inOrder}
 use Rattle.model.specs.Chain.{granted, lent, Meets}
-use Rattle.delegation.specs.Loans.{keyOf, lender, loanItem, loanRight, borrower, loanDepth, used, wordGood, loansInOrder}
-use Rattle.delegation.specs.Images.{Images, standingIn, LentIn, ImageChain}
-use Rattle.delegation.specs.Search.{picked, height, grantRound, gain, arrive, arriving, nextRound, roundAt, column, lenderTo, traced, roundsOf, heightOf, lengthOf, foundOf, chainOf}
+use Rattle.delegation.specs.Loans.{keyOf, lender, loanItem, loanRight, borrower, loanDepth, shiftIn, used, wordGood, loansInOrder}
+use Rattle.delegation.specs.Images.{Images, standingIn, WordCarries, ImageChain}
+use Rattle.delegation.specs.Search.{picks, picked, height, grantRound, gain, arrive, arriving, nextRound, roundAt, column, lenderTo, traced, roundsOf, heightOf, lengthOf, foundOf, chainOf}
 use Rattle.bits.proofs.Sets.{fst, snd, both, find, any-kept, all-true}
 use Rattle.bits.proofs.Indexed.{getD-tabulate, most-above, first-most, split, any-at, find-at}
 use Rattle.bits.proofs.Bits.{bit-high, bit-top}
@@ -55,18 +55,24 @@ standing-bit s p o r d hp ho hr hd =
 key-parts : (w : ℕ) → keyOf w ≡ 8 * loanItem w + loanRight w
 key-parts w = let z = div-div-eq-div-mul w 512 8 in omega arith
 
-pub picked-are : (t : List ℕ) (key w : ℕ) → any (eqb w) (picked t key) ≡ any (eqb w) (used t) && eqb (keyOf w) key
+pub picked-are : (t : List ℕ) (key w : ℕ) → any (eqb w) (picked t key) ≡ any (eqb w) (used t) && picks (shiftIn t) key w
 unfolding picked
 picked-are t key w =
-    any-kept (eqb w) (λ x. eqb (keyOf x) key) (λ x. true) (eqb (keyOf w) key) (used t) (all-true (used t))
-    (λ x h e. ap (λ (y : ℕ). eqb (keyOf y) key) (sym (eqb-true w x e)))
+    any-kept (eqb w) (picks (shiftIn t) key) (λ x. true) (picks (shiftIn t) key w) (used t) (all-true (used t))
+    (λ x h e. ap (picks (shiftIn t) key) (sym (eqb-true w x e)))
 
-pub lent-picked : (t : List ℕ) (o r w : ℕ) → r ≤ 7 → LentIn t o r w ↔ any (eqb w) (picked t (8 * o + r)) ≡ true
+pub lent-picked : (t : List ℕ) (o r w : ℕ) → r ≤ 7 → WordCarries t o r w ↔ any (eqb w) (picked t (8 * o + r)) ≡ true
 lent-picked t o r w h = (
-  λ l. picked-are t (8 * o + r) w ∙ both (l .0) (eq-eqb (keyOf w) (8 * o + r) (omega (arith, key-parts w, l .1, l .2))),
-  λ e. let b : any (eqb w) (used t) && eqb (keyOf w) (8 * o + r) ≡ true = sym (picked-are t (8 * o + r) w) ∙ e in
-      let k : keyOf w ≡ 8 * o + r = eqb-true (keyOf w) (8 * o + r) (snd (any (eqb w) (used t)) _ b) in
-      (fst (any (eqb w) (used t)) _ b, omega (arith, key-parts w), omega (arith, key-parts w)),
+  λ l. picked-are t (8 * o + r) w
+      ∙ both (l .0) (both (eq-eqb (keyOf w) (8 * o + r) (omega (arith, key-parts w, l .1, l .2))) (l .3)),
+  λ e. let b : any (eqb w) (used t) && picks (shiftIn t) (8 * o + r) w ≡ true = sym (picked-are t (8 * o + r) w) ∙ e in
+      let p : picks (shiftIn t) (8 * o + r) w ≡ true = snd (any (eqb w) (used t)) _ b in
+      let k : keyOf w ≡ 8 * o + r = eqb-true (keyOf w) (8 * o + r) (fst (eqb (keyOf w) (8 * o + r)) _ p) in (
+        fst (any (eqb w) (used t)) _ b,
+        omega (arith, key-parts w),
+        omega (arith, key-parts w),
+        snd (eqb (keyOf w) (8 * o + r)) _ p,
+      ),
 )
 
 -- ---- one loan

@@ -7,19 +7,19 @@ use native.Mathlib.Omega.{arith}
 use lib.ListN.{length}
 use lib.Dec.{eqb}
 use Rattle.model.specs.declared.Command.{Command}
-use Rattle.model.specs.declared.Command.the-variants.{Create, Delete, Allow, Withdraw, Lend, Recall}
+use Rattle.model.specs.declared.Command.the-variants.{Create, Delete, Allow, Withdraw, Lend, Recall, Shift}
 use Rattle.delegation.specs.declared.loan.Header.{Header}
 use Rattle.model.specs.Commands.{argumentsOf, mostLoans}
 use Rattle.model.specs.Journal.{Loan, Journal, loan, sameLoan, loanNames, facts, answered, apply}
 use Rattle.layouts.specs.Layouts.{grantBytes}
-use Rattle.delegation.specs.Loans.{wordOf, wordNames, freshHeader, loansImage}
+use Rattle.delegation.specs.Loans.{wordOf, wordNames, movedTo, loansImage}
 use Rattle.delegation.specs.Images.{Images, images}
 use Rattle.delegation.specs.ChainUnit.{chainAfter}
 use Rattle.model.proofs.Invariant.{accepted, loans-ranged}
 use Rattle.model.specs.Invariant.{rangedLoan, LoanInv, Kept}
 use Rattle.layouts.specs.Laws.{imageOf}
 use Rattle.layouts.proofs.Layouts.{bytes-laws, created-of, deleted-of, allowed-of, withdrawn-of, same-image}
-use Rattle.delegation.proofs.Loans.{word-names, word-same, sorted, keep-sorted, sorted-add, length-sorted, kept-of, with-of}
+use Rattle.delegation.proofs.Loans.{word-names, word-same, sorted, keep-sorted, sorted-add, length-sorted, kept-of, with-of, at-of}
 
 -- ---- the chain unit
 abbrev pub grantsOf : Journal → List ℕ
@@ -27,7 +27,7 @@ grantsOf j = imageOf grantBytes j
 
 -- what the header of the loans says of a journal beside the number of its loans
 abbrev pub headerFor : Journal → Header
-headerFor j = freshHeader
+headerFor j = record { shift = j .shift; count = 0 }
 
 abbrev loansOf : Journal → List Loan → List ℕ
 loansOf j ls = loansImage (headerFor j) (sorted ls)
@@ -54,17 +54,20 @@ chain-after j v (Allow by to on right depth) e =
     ap (λ g. images g (loansOf j (j .loans))) (allowed-of grantBytes bytes-laws j (v .inv) by to on right depth)
 chain-after j v (Withdraw by to on right) e =
     ap (λ g. images g (loansOf j (j .loans))) (withdrawn-of grantBytes bytes-laws j (v .inv) by to on right)
-chain-after j v (Lend by to on right depth) e =
-    let a = argumentsOf (Lend by to on right depth) in
-    ap₂ images (same-image grantBytes bytes-laws j (apply j (Lend by to on right depth)) refl refl)
-    (with-of (headerFor j) (sorted (j .loans)) (few-sorted j (v .loan-inv)) (wordOf (loan by on right to depth))
+chain-after j v (Lend by to on right depth last) e =
+    let a = argumentsOf (Lend by to on right depth last) in
+    ap₂ images (same-image grantBytes bytes-laws j (apply j (Lend by to on right depth last)) refl refl)
+    (with-of (headerFor j) (sorted (j .loans)) (few-sorted j (v .loan-inv)) (wordOf (loan by on right to depth last))
     ∙ ap (loansImage (headerFor j))
-    (sym (sorted-add (loan by on right to depth) (j .loans) (accepted (facts j a) a e .fits) (loans-ranged j (v .loan-inv)))))
-chain-after j v (Recall by to on right depth) e =
-    let a = argumentsOf (Recall by to on right depth) in
-    let l = loan by on right to depth in
-    ap₂ images (same-image grantBytes bytes-laws j (apply j (Recall by to on right depth)) refl refl)
+    (sym (sorted-add (loan by on right to depth last) (j .loans) (accepted (facts j a) a e .fits) (loans-ranged j (v .loan-inv)))))
+chain-after j v (Recall by to on right depth last) e =
+    let a = argumentsOf (Recall by to on right depth last) in
+    let l = loan by on right to depth last in
+    ap₂ images (same-image grantBytes bytes-laws j (apply j (Recall by to on right depth last)) refl refl)
     (kept-of (headerFor j) (sorted (j .loans)) (few-sorted j (v .loan-inv)) (λ w. not (eqb (wordOf l) w))
     ∙ ap (loansImage (headerFor j))
     (keep-sorted (λ m. not (sameLoan l m)) (λ w. not (eqb (wordOf l) w)) rangedLoan (j .loans)
     (loans-ranged j (v .loan-inv)) (λ m h. ap not (word-same l m (accepted (facts j a) a e .fits) h))))
+chain-after j v (Shift by now) e =
+    ap₂ images (same-image grantBytes bytes-laws j (apply j (Shift by now)) refl refl)
+    (unfold movedTo in (at-of (headerFor j) (sorted (j .loans)) (few-sorted j (v .loan-inv)) now))

@@ -1,10 +1,10 @@
--- The chain unit: its six commands, and its check.
+-- The chain unit: its seven commands, and its check.
 use mathlib.Core.Path.{_≡_}
 use mathlib.Core.Bool.{Bool, true, not, _&&_, cond}
 use mathlib.Core.List.{List, []}
 use Prim.Native.Nat.{ℕ, _+_, _*_}
 use lib.ListN.{length}
-use lib.Dec.{eqb, leb}
+use lib.Dec.{eqb, leb, ltb}
 use Rattle.model.specs.declared.Arguments.{Arguments}
 use Rattle.model.specs.declared.Facts.{Facts}
 use Rattle.model.specs.declared.Verb.{Verb}
@@ -15,9 +15,9 @@ use Rattle.bits.specs.Sets.{any}
 use Rattle.layouts.specs.Machine.{Machine, guardedBy}
 use Rattle.model.specs.Commands.{mostLoans}
 use Rattle.model.specs.Answers.{Found, asked, Numbered, chainCheckedOf, nothing, _when_else_}
-use Rattle.model.specs.Journal.{grant, loanIn}
+use Rattle.model.specs.Journal.{grant, carries, loanIn}
 use Rattle.layouts.specs.Layouts.{grantBytes, grantCells, liveIn, held, inOrder, created, deleted, allowed, withdrawn, freshImage}
-use Rattle.delegation.specs.Loans.{wordOf, wordNames, loanWords, countOf, used, loansImage, loansWith, loansKept, freshHeader, loansInOrder}
+use Rattle.delegation.specs.Loans.{wordOf, wordNames, wordDated, loanWords, countOf, shiftIn, used, loansImage, loansWith, loansKept, loansAt, freshHeader, loansInOrder}
 use Rattle.delegation.specs.Images.{Images, images}
 use Rattle.delegation.specs.Search.{foundOf, chainOf}
 
@@ -33,13 +33,16 @@ chainSized s room = eqb (length (s .grants)) grantCells && eqb (length (s .loans
 abbrev pub chainGuarded : Images → Bool → ℕ → ℕ
 chainGuarded s room n = guardedBy (chainSized s room) (chainInOrder s) n
 
--- what the table asks; full: '1,024 loans stand and this is not one of them'
+-- what the table asks; back: 'the new shift is below the present one and such a loan stands'; past: 'last is set and below the present
+-- shift'; full: '1,024 loans stand and this is not one of them'
 abbrev pub chainFacts : Images → Arguments → Facts
 chainFacts s a = record {
   by = liveIn grantBytes (s .grants) (a .by);
   on = liveIn grantBytes (s .grants) (a .on);
   to = liveIn grantBytes (s .grants) (a .to);
   edits = held grantBytes (s .grants) (a .by) (a .on) 0;
+  back = ltb (a .shift) (shiftIn (s .loans)) && any wordDated (used (s .loans));
+  past = not (carries (shiftIn (s .loans)) (a .shift));
   full = leb mostLoans (countOf (s .loans)) && not (any (eqb (wordOf (loanIn a))) (used (s .loans)));
 }
 
@@ -51,6 +54,7 @@ chainDone s a verb.Allow = images (allowed grantBytes (s .grants) (grant (a .to)
 chainDone s a verb.Withdraw = images (withdrawn grantBytes (s .grants) (a .to) (a .on) (a .right)) (s .loans)
 chainDone s a verb.Lend = images (s .grants) (loansWith (wordOf (loanIn a)) (s .loans))
 chainDone s a verb.Recall = images (s .grants) (loansKept (λ w. not (eqb (wordOf (loanIn a)) w)) (s .loans))
+chainDone s a verb.Shift = images (s .grants) (loansAt (a .shift) (s .loans))
 
 -- by the verb of its arguments
 abbrev pub chainAfter : Images → Arguments → Images

@@ -1,19 +1,24 @@
--- The check's search: the loans of the item and right are picked once, then come rounds by number of loans.
+-- The check's search: the carrying loans of the item and right are picked once, then come rounds by number of loans.
 -- Round k has for each person 0, or 1 + the greatest allowance of the chains to that person with exactly k loans. A loan costs one, so
 -- rounds 0 to 7 have all chains. Which of the best chains is written is fixed here; what it is worth is `Meets` alone.
-use mathlib.Core.Bool.{true, false, cond}
+use mathlib.Core.Bool.{Bool, true, false, _&&_, cond}
 use mathlib.Core.List.{List, [], _∷_, _++_}
 use Prim.Native.Nat.{ℕ, zero, suc, _+_, _-_, _*_, min}
 use lib.Dec.{eqb}
 use lib.Count.{leadingZeros}
 use lib.ListN.{length, getD, replicate}
 use Rattle.model.specs.Answers.{Found}
+use Rattle.model.specs.Journal.{carries}
 use Rattle.bits.specs.Sets.{keep, tabulate, most, firstAt}
-use Rattle.delegation.specs.Loans.{keyOf, lender, borrower, loanDepth, used}
+use Rattle.delegation.specs.Loans.{keyOf, lastShift, lender, borrower, loanDepth, shiftIn, used}
 
--- the loans of one item and right, each once, rising
+-- a loan of one item and right that carries at shift now
+abbrev pub picks : ℕ → ℕ → ℕ → Bool
+picks now key w = eqb (keyOf w) key && carries now (lastShift w)
+
+-- the carrying loans of one item and right, each once, rising
 unfoldable pub picked : List ℕ → ℕ → List ℕ
-picked t key = keep (λ w. eqb (keyOf w) key) (used t)
+picked t key = keep (picks (shiftIn t) key) (used t)
 
 -- 'its greatest depth is the place of its highest set bit': that place + 1, or 0 for a byte of no grant
 abbrev pub height : ℕ → ℕ

@@ -1,55 +1,89 @@
-// The one codec of a loan word, lender * 2^18 + on * 2^12 + right * 2^9 + borrower * 2^3 + depth, and of word 0 of a loans image.
-// Each field is cut to its width: none depends on the bits above it.
+// The one codec of a loan word, last * 2^24 + lender * 2^18 + on * 2^12 + right * 2^9 + borrower * 2^3 + depth, and of word 0 of a loans
+// image, shift * 2^16 + count. Each field is cut to its width: none depends on the bits above it.
 use model::Depth;
 use model::DepthRead;
 use model::Item;
 use model::ItemRead;
 use model::Right;
 use model::RightRead;
+use model::Shift;
+use model::ShiftRead;
 ghost use mathlib.Core.Path.{_≡_};
 ghost use Prim.Native.Nat.{_%_};
-ghost use Rattle.model.specs.Journal.{loan};
-ghost use Rattle.delegation.specs.Loans.{wordOf, cut, lender, loanItem, loanRight, borrower, loanDepth, keyOf, keyFor, headerOf, headerWord, recounted, freshHeader};
+ghost use Rattle.model.specs.Journal.{loan, carries};
+ghost use Rattle.delegation.specs.Loans.{wordOf, cut, lastShift, lender, loanItem, loanRight, borrower, loanDepth, keyOf, keyFor, headerOf, headerWord, recounted, movedTo, freshHeader};
 
-// Word 0 of a loans image: how many loans stand.
+// Word 0 of a loans image, its upper and its lower half: the present shift, and how many loans stand.
 pub struct Header {
-    pub count: u32,
+    pub shift: u16,
+    pub count: u16,
 }
 
 impl Header {
-    // Of an image with no loan.
+    // Of a fresh image: shift 0, and no loan.
     pub fn fresh() -> Header
         ensures { λ r. ⌜ r ≡ freshHeader ⌝ }
     {
-        Header { count: 0 }
+        Header { shift: 0, count: 0 }
     }
 
     pub fn read(word: u32) -> Header
         ensures { λ r. ⌜ r ≡ headerOf word ⌝ }
     {
-        Header { count: word }
+        Header {
+            shift: (word / 65536) as u16,
+            count: (word % 65536) as u16,
+        }
     }
 
     pub fn word(self) -> u32
         ensures { λ r. ⌜ r ≡ headerWord self ⌝ }
     {
-        self.count
+        self.shift as u32 * 65536 + self.count as u32
     }
 
     // The header of the same image with n loans.
-    pub fn recounted(self, n: u32) -> Header
+    pub fn recounted(self, n: u16) -> Header
         ensures { λ r. ⌜ r ≡ recounted self n ⌝ }
     {
-        Header { count: n }
+        Header {
+            shift: self.shift,
+            count: n,
+        }
+    }
+
+    // The header of the same image at another shift, which is cut to its range.
+    pub fn moved(self, now: Shift) -> Header
+        ensures { λ r. ⌜ r ≡ movedTo self (now .0 % 256) ⌝ }
+    {
+        Header {
+            shift: (now.number() % 256) as u16,
+            count: self.count,
+        }
+    }
+
+    // The present shift, cut to its range.
+    pub fn present(self) -> Shift
+        ensures { λ r. ⌜ r .0 ≡ self .shift % 256 ⌝ }
+    {
+        shift_in(self.shift as u32)
     }
 }
 
-// The word of a loan. A number beyond its range is cut to it, so that the word is one of 24 bits whatever the arguments are.
-pub fn word(lender: Item, on: Item, right: Right, borrower: Item, depth: Depth) -> u32
-    ensures { λ r. ⌜ r ≡ wordOf (cut (loan (lender .0) (on .0) (right .0) (borrower .0) (depth .0))) ⌝ }
+// The word of a loan. A number beyond its range is cut to it, so that the word is one of 32 bits whatever the arguments are.
+pub fn word(lender: Item, on: Item, right: Right, borrower: Item, depth: Depth, last: Shift) -> u32
+    ensures { λ r. ⌜ r ≡ wordOf (cut (loan (lender .0) (on .0) (right .0) (borrower .0) (depth .0) (last .0))) ⌝ }
 {
-    let of = lender.number() % 64 * 262144 + on.number() % 64 * 4096;
-    of + right.number() % 8 * 512 + borrower.number() % 64 * 8 + depth.number() % 8
+    let of = last.number() % 256 * 16777216 + lender.number() % 64 * 262144;
+    let of = of + on.number() % 64 * 4096 + right.number() % 8 * 512;
+    of + borrower.number() % 64 * 8 + depth.number() % 8
+}
+
+// Whether a loan with that last shift carries at shift now.
+pub fn carries(now: Shift, last: Shift) -> bool
+    ensures { λ r. ⌜ r ≡ carries (now .0) (last .0) ⌝ }
+{
+    (last.number() == 0) | (now.number() <= last.number())
 }
 
 // What the lowest bits of a number are as a kind; no number that is cut to them is beyond it.
@@ -81,6 +115,22 @@ fn depth_in(n: u32) -> Depth
         DepthRead::Within(depth) => depth,
         DepthRead::Beyond => Depth::zero(),
     }
+}
+
+fn shift_in(n: u32) -> Shift
+    ensures { λ r. ⌜ r .0 ≡ n % 256 ⌝ }
+{
+    let kind = Shift::read(n % 256);
+    match kind {
+        ShiftRead::Within(shift) => shift,
+        ShiftRead::Beyond => Shift::first(),
+    }
+}
+
+pub fn last(w: u32) -> Shift
+    ensures { λ r. ⌜ r .0 ≡ lastShift w ⌝ }
+{
+    shift_in(w / 16777216)
 }
 
 pub fn lender(w: u32) -> Item

@@ -83,7 +83,7 @@ module _ (L : Layout) (s : List ℕ) where
 
   pub facts-are : (a : Arguments) (r : ℕ) (x y z w : Bool) → r ≡ 0
       → x ≡ liveIn L s (a .by) → y ≡ liveIn L s (a .on) → z ≡ liveIn L s (a .to) → w ≡ held L s (a .by) (a .on) r
-      → _≡_ {A = Facts} (record { by = x; on = y; to = z; edits = w; full = false }) (factsOf L s a)
+      → _≡_ {A = Facts} (record { by = x; on = y; to = z; edits = w; back = false; past = false; full = false }) (factsOf L s a)
   facts-are a r x y z w er ex ey ez ew = rw (ex, ey, ez, ew, er)
 
 -- ---- every number that a unit gives is some answer's

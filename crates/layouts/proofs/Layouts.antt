@@ -1,6 +1,6 @@
 -- Demand 3 for a unit of any layout: fed the same commands, it follows the journal.
 use mathlib.Core.Path.{_≡_, refl, sym, ap, _∙_}
-use mathlib.Core.Bool.{Bool, true, false, not, _&&_, _||_, cond, false≢true}
+use mathlib.Core.Bool.{Bool, true, false, not, _&&_, _||_, cond}
 use mathlib.Core.List.{List}
 use Prim.Native.Nat.{ℕ, zero, suc, _+_, _-_, _%_, _^_, _≤_, _<_}
 use native.Mathlib.Omega.{arith}
@@ -10,7 +10,6 @@ use lib.Pow.{pow-pos}
 use lib.Dec.{eqb, leb, ltb}
 use Rattle.bits.specs.Sets.{any, all}
 use Rattle.model.specs.Commands.{items, rightDepth, argumentsOf, fits}
-use Rattle.model.specs.Answers.{knows}
 use Rattle.layouts.specs.Machine.{answerOf}
 use Rattle.model.specs.Journal.{Grant, Journal, grant, sameGrant, isTo, names, lives, facts, answered, fresh, apply, hasGrant}
 use Rattle.bits.specs.Cells.{at}
@@ -23,7 +22,7 @@ use Rattle.model.proofs.Invariant.{same-grant, lives-create, lives-delete, to-p
 use Rattle.model.specs.Invariant.{ranged, sound, Inv}
 use Rattle.model.specs.declared.Command.{Command}
 use Rattle.model.specs.declared.Command.the-variants.{Create, Delete, Allow, Withdraw}
-use Rattle.model.proofs.Answers.{table-same}
+use Rattle.model.proofs.Answers.{LoanFree, table-flat}
 use Rattle.layouts.specs.Laws.{Laws, placed, imageOf}
 
 -- ---- tools
@@ -157,16 +156,16 @@ module _ (L : Layout) (W : Laws L) where
       (λ h. rw (guard-of j v _, h) (sym (beyond-none j v p o r h)))
 
   -- a command's number, where the table asks nothing of loans
-  pub answer-of : (j : Journal) → Inv j → (c : Command) → knows (argumentsOf c .verb) 10 ≡ false
+  pub answer-of : (j : Journal) → Inv j → (c : Command) → LoanFree (argumentsOf c .verb)
       → answerOf (flatUnit L) (imageOf L j) c ≡ answered j c
   answer-of j v c h =
       let a = argumentsOf c in
       guard-of j v _
       ∙ by-cases (fits a)
       (λ t. let r = ranged-command a t in
-      rw t (table-same (factsOf L (imageOf L j) a) (facts j a) (live-of j _ (le-leb _ 63 (r .by))) (live-of j _ (le-leb _ 63 (r .on)))
+      rw t (table-flat (factsOf L (imageOf L j) a) (facts j a) (live-of j _ (le-leb _ 63 (r .by))) (live-of j _ (le-leb _ 63 (r .on)))
       (live-of j _ (le-leb _ 63 (r .to)))
-      (held-of j v _ _ 0 (both (both (le-leb _ 63 (r .by)) (le-leb _ 63 (r .on))) refl)) a (λ n. absurd (false≢true (sym h ∙ n)))))
+      (held-of j v _ _ 0 (both (both (le-leb _ 63 (r .by)) (le-leb _ 63 (r .on))) refl)) a h))
       (λ t. rw t)
 
   -- ---- what the commands do to an image, as what they do to the journal

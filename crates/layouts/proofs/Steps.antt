@@ -3,7 +3,7 @@ use mathlib.Core.Path.{_≡_, refl}
 use mathlib.Core.Bool.{Bool, true, false, cond, false≢true}
 use lib.Dec.{eqb}
 use Rattle.model.specs.declared.Command.{Command}
-use Rattle.model.specs.declared.Command.the-variants.{Create, Delete, Allow, Withdraw, Lend, Recall}
+use Rattle.model.specs.declared.Command.the-variants.{Create, Delete, Allow, Withdraw, Lend, Recall, Shift}
 use Rattle.model.specs.Commands.{argumentsOf}
 use Rattle.model.specs.Answers.{flat}
 use Rattle.layouts.specs.Machine.{stepOf}
@@ -20,8 +20,9 @@ module _ (L : Layout) (W : Laws L) where
   after-of j v (Delete by on) h = deleted-of L W j v by on
   after-of j v (Allow by to on right depth) h = allowed-of L W j v by to on right depth
   after-of j v (Withdraw by to on right) h = withdrawn-of L W j v by to on right
-  after-of j v (Lend by to on right depth) h = absurd (false≢true h)
-  after-of j v (Recall by to on right depth) h = absurd (false≢true h)
+  after-of j v (Lend by to on right depth last) h = absurd (false≢true h)
+  after-of j v (Recall by to on right depth last) h = absurd (false≢true h)
+  after-of j v (Shift by now) h = absurd (false≢true h)
 
   pub step-of : (j : Journal) → Inv j → (c : Command) → flat c ≡ true → stepOf (flatUnit L) (imageOf L j) c ≡ imageOf L (step j c)
   step-of j v c h = rw (answer-of L W j v c (flat-lends c h)) (go (eqb (answered j c) 0))

@@ -16,7 +16,7 @@ use Rattle.layouts.specs.declared.admit.CheckAdmission.the-variants as c
 abbrev pub admission : {A : Type 0} → Answer → Bool → (Answer → A) → A → A
 admission order within refused ready = cond (eqb (numberOf order) 0) (cond within ready (refused is.OutOfRange)) (refused order)
 
--- of a command: 'an item above 63, right above 7 or depth above 7' is 3
+-- of a command: 'an item above 63, right above 7 or depth above 7' and 'a shift above 255' are 3
 abbrev pub commandAdmission : Answer → Command → CommandAdmission
 commandAdmission order c = admission order (fits (argumentsOf c)) command.Refused (command.Ready (typedOf (argumentsOf c)))
 

@@ -116,6 +116,8 @@ module _ (L : Layout) where
     on = liveIn s (a .on);
     to = liveIn s (a .to);
     edits = held s (a .by) (a .on) 0;
+    back = false;
+    past = false;
     full = false;
   }
 

@@ -8,7 +8,7 @@ use Prim.Native.Nat.{ℕ, zero, suc, _<_}
 use lib.ListN.{length, getD}
 use lib.Dec.{eqb, leb}
 use Rattle.bits.specs.Sets.{all}
-use Rattle.model.specs.declared.Command.the-variants.{Create, Delete, Allow, Withdraw, Lend, Recall}
+use Rattle.model.specs.declared.Command.the-variants.{Create, Delete, Allow, Withdraw, Lend, Recall, Shift}
 use Rattle.lines.specs.declared.Parsed.{Parsed}
 use Rattle.lines.specs.declared.Parsed.the-variants.{Run, Ask, Malformed}
 use Rattle.lines.specs.Bytes.{bytes}
@@ -45,15 +45,17 @@ abbrev pub form : (t : String) → Asks (count (parts (bytes t))) → Form
 form t f = record { pattern = parts (bytes t); asks = f }
 
 -- 'A line is key=value fields in fixed order, one space between': '`do` (create, delete, allow, withdraw, lend, recall, check), then the
--- fields in the order of the journal section; check has who, on, right'. A verb is a place in this list
+-- fields in the order of the journal section; check has who, on, right'; 'lend and recall gain `last` at the end', and '`do=shift by now`'.
+-- A verb is a place in this list
 abbrev pub forms : List Form
 forms =
     form "do=create by=# on=#" (λ by on. Run (Create by on)) ∷
     form "do=delete by=# on=#" (λ by on. Run (Delete by on)) ∷
     form "do=allow by=# to=# on=# right=# depth=#" (λ by to on right depth. Run (Allow by to on right depth)) ∷
     form "do=withdraw by=# to=# on=# right=#" (λ by to on right. Run (Withdraw by to on right)) ∷
-    form "do=lend by=# to=# on=# right=# depth=#" (λ by to on right depth. Run (Lend by to on right depth)) ∷
-    form "do=recall by=# to=# on=# right=# depth=#" (λ by to on right depth. Run (Recall by to on right depth)) ∷
+    form "do=lend by=# to=# on=# right=# depth=# last=#" (λ by to on right depth last. Run (Lend by to on right depth last)) ∷
+    form "do=recall by=# to=# on=# right=# depth=# last=#" (λ by to on right depth last. Run (Recall by to on right depth last)) ∷
+    form "do=shift by=# now=#" (λ by now. Run (Shift by now)) ∷
     form "do=check who=# on=# right=#" (λ who on right. Ask who on right) ∷
     []
 

@@ -23,7 +23,7 @@ unfoldable pub fieldAt : List ℕ → List ℕ → ℕ → Number
 fieldAt key s at = cond (startsWith key (drop at s)) (numberAt s (at + length key)) Bad
 
 -- ---- a pattern as the code has it: a word, and a letter for each key
--- the bytes of a key, by its letter: b, w, t, o, r, and any other for the last
+-- the bytes of a key, by its letter: b, w, t, o, r, l, n, and any other for depth
 abbrev pub keyText : ℕ → List ℕ
 keyText k =
     cond (eqb k 98) (bytes " by=") (
@@ -31,7 +31,9 @@ keyText k =
     cond (eqb k 116) (bytes " to=") (
     cond (eqb k 111) (bytes " on=") (
     cond (eqb k 114) (bytes " right=") (
-    bytes " depth=")))))
+    cond (eqb k 108) (bytes " last=") (
+    cond (eqb k 110) (bytes " now=") (
+    bytes " depth=")))))))
 
 -- the value of a key at a place of s
 unfoldable pub keyAt : ℕ → List ℕ → ℕ → Number
@@ -54,7 +56,7 @@ partsOf w ks = literals (bytes "do=") (literals w (keysParts ks))
 -- ---- values in an array
 -- the most values that a line has
 abbrev pub most : ℕ
-most = 5
+most = 6
 
 -- room for the values of any verb, and none is there yet
 unfoldable pub Blank : List ℕ → Type 0

@@ -126,12 +126,14 @@ fn key_value(s: &[u8], at: usize, key: u8) -> Number
         b't' => field(s, at, b" to="),
         b'o' => field(s, at, b" on="),
         b'r' => field(s, at, b" right="),
+        b'l' => field(s, at, b" last="),
+        b'n' => field(s, at, b" now="),
         _ => field(s, at, b" depth="),
     }
 }
 
 // The most values that a line has.
-const MOST: usize = 5;
+const MOST: usize = 6;
 
 // Whether a word and these keys, and nothing after them, come after the line's `do=`; and the values of the keys.
 fn fill(values: &mut [u32; MOST], s: &[u8], word: &[u8], keys: &[u8]) -> bool
@@ -164,9 +166,10 @@ fn read_by(values: &mut [u32; MOST], s: &[u8], verb: usize) -> bool
         1 => fill(values, s, b"delete", b"bo"),
         2 => fill(values, s, b"allow", b"btord"),
         3 => fill(values, s, b"withdraw", b"btor"),
-        4 => fill(values, s, b"lend", b"btord"),
-        5 => fill(values, s, b"recall", b"btord"),
-        6 => fill(values, s, b"check", b"wor"),
+        4 => fill(values, s, b"lend", b"btordl"),
+        5 => fill(values, s, b"recall", b"btordl"),
+        6 => fill(values, s, b"shift", b"bn"),
+        7 => fill(values, s, b"check", b"wor"),
         _ => false,
     }
 }
@@ -197,8 +200,8 @@ fn withdraw(by: u32, to: u32, on: u32, right: u32) -> Parsed
     Parsed::Run(Command::Withdraw { by, to, on, right })
 }
 
-fn lend(by: u32, to: u32, on: u32, right: u32, depth: u32) -> Parsed
-    ensures { λ r. ⌜ r ≡ Run (Lend by to on right depth) ⌝ }
+fn lend(by: u32, to: u32, on: u32, right: u32, depth: u32, last: u32) -> Parsed
+    ensures { λ r. ⌜ r ≡ Run (Lend by to on right depth last) ⌝ }
 {
     Parsed::Run(Command::Lend {
         by,
@@ -206,11 +209,12 @@ fn lend(by: u32, to: u32, on: u32, right: u32, depth: u32) -> Parsed
         on,
         right,
         depth,
+        last,
     })
 }
 
-fn recall(by: u32, to: u32, on: u32, right: u32, depth: u32) -> Parsed
-    ensures { λ r. ⌜ r ≡ Run (Recall by to on right depth) ⌝ }
+fn recall(by: u32, to: u32, on: u32, right: u32, depth: u32, last: u32) -> Parsed
+    ensures { λ r. ⌜ r ≡ Run (Recall by to on right depth last) ⌝ }
 {
     Parsed::Run(Command::Recall {
         by,
@@ -218,6 +222,7 @@ fn recall(by: u32, to: u32, on: u32, right: u32, depth: u32) -> Parsed
         on,
         right,
         depth,
+        last,
     })
 }
 
@@ -236,20 +241,22 @@ fn meaning_of(verb: usize, values: &[u32; MOST]) -> Parsed
     let c = values[2];
     let d = values[3];
     let e = values[4];
+    let f = values[5];
     match verb {
         0 => Parsed::Run(Command::Create { by: a, on: b }),
         1 => Parsed::Run(Command::Delete { by: a, on: b }),
         2 => allow(a, b, c, d, e),
         3 => withdraw(a, b, c, d),
-        4 => lend(a, b, c, d, e),
-        5 => recall(a, b, c, d, e),
-        6 => ask(a, b, c),
+        4 => lend(a, b, c, d, e, f),
+        5 => recall(a, b, c, d, e, f),
+        6 => Parsed::Run(Command::Shift { by: a, now: b }),
+        7 => ask(a, b, c),
         _ => Parsed::Malformed,
     }
 }
 
 // A verb for each number that two bytes of its line give: @ is the first of the grammar's list, a the next.
-const VERBS: [u8; 32] = *b"@f@@@@e@@c@@@@@@@@@@@d@@a@b@@@@@";
+const VERBS: [u8; 32] = *b"@g@@@@e@@c@@@@@@@@@@fd@@a@b@@@@@";
 
 // The byte at a place, and 0 past the end.
 fn byte(s: &[u8], at: usize) -> u8

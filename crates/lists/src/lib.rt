@@ -169,6 +169,8 @@ fn facts(image: &[u64], t: Typed) -> Facts
         on: lives(image, on),
         to: lives(image, to),
         edits: holds(image, by, on, edit),
+        back: false,
+        past: false,
         full: false,
     }
 }

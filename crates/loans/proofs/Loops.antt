@@ -2,7 +2,7 @@
 use mathlib.Core.Path.{_≡_, refl, sym, ap, _∙_}
 use mathlib.Core.Bool.{Bool, true, false, _&&_, _||_, cond, false≢true}
 use mathlib.Core.List.{List, [], _∷_, _++_, append-nil, append-assoc}
-use Prim.Native.Nat.{ℕ, suc, _+_, _/_, _≤_, _<_, _-_}
+use Prim.Native.Nat.{ℕ, suc, _+_, _≤_, _<_, _-_}
 use native.Mathlib.Omega.{arith}
 use native.Mathlib.Nat.{add-zero}
 use native.Mathlib.Numerals.{add-one}
@@ -10,7 +10,7 @@ use lib.ListN.{length, getD, take, drop, set, length-set, drop-of-length-le, len
 use lib.Seq.{drop-cons, take-suc-set, take-set-le, drop-set-lt, append-snoc, take-all}
 use lib.Dec.{eqb, ltb}
 use lib.Bits.{bitOr}
-use borrow.Author.Tests.{ltb-true, ltb-false, eq-eqb, ne-eqb, eqb-false, le-ltb}
+use borrow.Author.Tests.{ltb-true, ltb-false, ne-eqb, eqb-false, le-ltb}
 use Rattle.bits.specs.Sets.{any, all, keep}
 use Rattle.delegation.specs.Loans.{rising, insert}
 use Rattle.bits.proofs.Sets.{by-cases, fst, snd}
@@ -20,12 +20,6 @@ use borrow.Rule.Slice.PartMut.{putMid}
 use Rattle.loans.specs.Words.{unmasked}
 
 -- ---- the flags of a word
-pub high-zero : (w : ℕ) → eqb (w / 16777216) 0 ≡ ltb w 16777216
-high-zero w =
-    by-cases (ltb w 16777216)
-    (λ t. eq-eqb (w / 16777216) 0 (omega (arith, ltb-true w 16777216 t)) ∙ sym t)
-    (λ t. ne-eqb (w / 16777216) 0 (λ (z : w / 16777216 ≡ 0). omega (arith, ltb-false w 16777216 t)) ∙ sym t)
-
 pub names-zero : (d : List ℕ) (p i q : ℕ)
     → eqb (bitOr (bitOr (getD d p 0) (getD d i 0)) (getD d q 0)) 0 ≡ unmasked d p && unmasked d i && unmasked d q
 names-zero d p i q =

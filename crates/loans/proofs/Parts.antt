@@ -9,12 +9,12 @@ use lib.ListN.{length, length-append, take, drop, set, replicate, length-take, l
 use lib.Seq.{append-snoc, take-all, take-length, drop-length, length-take-le, take-append-le, drop-at, set-at}
 use borrow.Rule.Slice.PartMut.{putMid}
 use lib.Dec.{eqb, leb}
-use borrow.Author.Tests.{le-leb, leb-true, leb-false, eq-eqb}
+use borrow.Author.Tests.{leb-true, leb-false, eq-eqb}
 use Rattle.bits.specs.Sets.{any, all}
-use Rattle.model.specs.Commands.{mostLoans}
-use Rattle.delegation.specs.Loans.{lender, loanItem, borrower, rising, insert, loanWords, headerWord, recounted, headerIn, countOf, used, loansImage, loansWith, wordGood, loansInOrder}
+use Rattle.model.specs.Commands.{shifts, mostLoans}
+use Rattle.delegation.specs.Loans.{lender, loanItem, borrower, rising, insert, loanWords, headerWord, recounted, movedTo, headerIn, countOf, shiftIn, used, loansImage, loansWith, loansAt, wordGood, loansInOrder}
 use Rattle.delegation.specs.declared.loan.Header.{Header}
-use Rattle.bits.proofs.Sets.{by-cases, all-and}
+use Rattle.bits.proofs.Sets.{by-cases, snd, all-and}
 use Rattle.delegation.proofs.Rising.{insert-present}
 use Rattle.loans.specs.Words.{shaped, namesLive, Ordered}
 
@@ -49,6 +49,13 @@ cut-off h (x ∷ s) last m v n l e q =
     let a : length (take m s) ≡ m = length-take-le m s (omega arith) in
     rw (q, a, add-one m, k, drop-length (drop m s), z)
     (ap (λ (r : List ℕ). headerWord (recounted h m) ∷ (take m s ++ r)) (append-nil (replicate (mostLoans - m) 0)))
+
+-- word 0 written for another shift
+pub shift-set : (t : List ℕ) (n : ℕ) (h k : Header) (v : ℕ) → length t ≡ loanWords → h ≡ headerIn t → k ≡ movedTo h n → v ≡ headerWord k
+    → set t 0 v ≡ loansAt n t
+unfolding loansAt
+shift-set [] n h k v l e m w = absurd (omega arith)
+shift-set (x ∷ s) n h k v l e m w = ap (λ (y : ℕ). y ∷ s) (w ∙ ap headerWord (m ∙ ap (λ (g : Header). movedTo g n) e))
 
 -- the words that stay, in the image from whose part they were taken
 pub packed-part : (t part : List ℕ) (k m : ℕ) → 0 < length t → m ≤ length part → take m (drop 1 (putMid 1 k t part)) ≡ take m part
@@ -100,17 +107,19 @@ good-split live w =
     ap (λ b. b && live (borrower w)) (and-assoc (shaped w) (live (lender w)) (live (loanItem w)))
     ∙ and-assoc (shaped w) (live (lender w) && live (loanItem w)) (live (borrower w))
 
-pub order-parts : (live : ℕ → Bool) (t : List ℕ) (n : ℕ) → length t ≡ loanWords → countOf t ≤ mostLoans → n ≡ min (countOf t) (length t - 1)
+pub order-parts : (live : ℕ → Bool) (t : List ℕ) (n : ℕ) → length t ≡ loanWords → shifts (shiftIn t) && leb (countOf t) mostLoans ≡ true
+    → n ≡ min (countOf t) (length t - 1)
     → eqb (length t) loanWords && loansInOrder live t
     ≡ rising (take (n + 1 - 1) (drop 1 t)) && all shaped (take (n + 1 - 1) (drop 1 t)) && all (namesLive live) (take (n + 1 - 1) (drop 1 t))
     && all (eqb 0) (take (length t - (n + 1)) (drop (n + 1) t))
 unfolding loansInOrder
-order-parts live t n l few e =
+order-parts live t n l in-limits e =
+    let few : countOf t ≤ mostLoans = leb-true (countOf t) mostLoans (snd (shifts (shiftIn t)) _ in-limits) in
     let z : take (length t - (n + 1)) (drop (n + 1) t) ≡ drop (n + 1) t = take-all (length t - (n + 1)) (drop (n + 1) t)
     (simp length-drop (omega arith)) in
     let q : n + 1 ≡ suc (countOf t) = omega arith in
     let g : all (wordGood live) (used t) ≡ all shaped (used t) && all (namesLive live) (used t)
     = (λ j. all (λ w. good-split live w j) (used t)) ∙ all-and shaped (namesLive live) (used t) in
-    rw (eq-eqb (length t) loanWords l, le-leb (countOf t) mostLoans few, part-used t n e, z, q, g)
+    rw (eq-eqb (length t) loanWords l, in-limits, part-used t n e, z, q, g)
     (ap (λ b. b && all (eqb 0) (drop (suc (countOf t)) t))
     (sym (and-assoc (rising (used t)) (all shaped (used t)) (all (namesLive live) (used t)))))

@@ -7,9 +7,9 @@ use native.Mathlib.Omega.{arith}
 use lib.ListN.{length, getD, drop}
 use lib.Dec.{eqb, leb}
 use Rattle.bits.specs.Sets.{all}
-use Rattle.model.specs.Commands.{Ranged, mostLoans}
+use Rattle.model.specs.Commands.{Ranged, shifts, mostLoans}
 use Rattle.model.specs.Journal.{loan, loanIn}
-use Rattle.delegation.specs.Loans.{lender, loanItem, borrower, cut, rising, loanWords, countOf, used, wordGood, loansInOrder}
+use Rattle.delegation.specs.Loans.{lender, loanItem, borrower, cut, rising, loanWords, countOf, shiftIn, used, wordGood, loansInOrder}
 use Rattle.delegation.proofs.Loans.{order-image}
 use Rattle.model.specs.declared.Arguments.{Arguments}
 use Rattle.loans.specs.Words.{unmasked, Ordered}
@@ -22,7 +22,8 @@ pub masked : (live : ℕ → Bool) (d t : List ℕ) → ((i : ℕ) → i < 64 �
     → loansInOrder (unmasked d) t ≡ loansInOrder live t
 unfolding loansInOrder
 masked live d t m =
-    λ j. leb (countOf t) mostLoans && rising (used t) && all (λ w. good w j) (used t) && all (eqb 0) (drop (suc (countOf t)) t)
+    λ j. shifts (shiftIn t) && leb (countOf t) mostLoans && rising (used t) && all (λ w. good w j) (used t)
+    && all (eqb 0) (drop (suc (countOf t)) t)
   where
     one : (i : ℕ) → i < 64 → unmasked d i ≡ live i
     one i l = ap (λ (x : ℕ). eqb x 0) (m i l) ∙ zero (live i)
@@ -42,4 +43,5 @@ cut-none a r =
     let k : a .right % 8 ≡ a .right = omega (arith, r .right) in
     let q : a .to % 64 ≡ a .to = omega (arith, r .to) in
     let d : a .depth % 8 ≡ a .depth = omega (arith, r .depth) in
-    λ j. loan (p j) (o j) (k j) (q j) (d j)
+    let n : a .shift % 256 ≡ a .shift = omega (arith, r .shift) in
+    λ j. loan (p j) (o j) (k j) (q j) (d j) (n j)

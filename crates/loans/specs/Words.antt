@@ -4,7 +4,7 @@ use mathlib.Core.Bool.{Bool, true, not, _&&_, cond}
 use mathlib.Core.List.{List}
 use Prim.Native.Nat.{ℕ, _-_}
 use lib.ListN.{length, getD}
-use lib.Dec.{eqb, ltb}
+use lib.Dec.{eqb}
 use Rattle.bits.specs.Sets.{keep}
 use Rattle.delegation.specs.Loans.{lender, loanItem, loanRight, borrower, wordNames, rising, loanWords, headerIn, used, loansImage}
 use Rattle.loans.specs.declared.Rule.{Rule}
@@ -14,9 +14,9 @@ use Rattle.loans.specs.declared.Rule.the-variants.{Other, Without}
 abbrev pub unmasked : List ℕ → ℕ → Bool
 unmasked d i = eqb (getD d i 0) 0
 
--- a loan word lies below 2^24 and is not of right 0
+-- a loan word is not of right 0
 abbrev pub shaped : ℕ → Bool
-shaped w = ltb w 16777216 && not (eqb (loanRight w) 0)
+shaped w = not (eqb (loanRight w) 0)
 
 -- the items that a loan word names live
 abbrev pub namesLive : (ℕ → Bool) → ℕ → Bool

@@ -1,11 +1,14 @@
 // Whether a loans image is in order. Each loop ORs flags that are 0 where a word passes, and the sum is tested once.
 use crate::Loans;
 use delegation::loan;
+use delegation::loan::Header;
+use model::Shift;
 ghost use mathlib.Core.Path.{_≡_};
 ghost use mathlib.Core.Bool.{_&&_};
 ghost use lib.ListN.{length};
-ghost use lib.Dec.{eqb, ltb};
+ghost use lib.Dec.{eqb, leb, ltb};
 ghost use Rattle.bits.specs.Sets.{all};
+ghost use Rattle.model.specs.Commands.{shifts, mostLoans};
 ghost use Rattle.delegation.specs.Loans.{rising, loanWords, loansInOrder};
 ghost use Rattle.loans.specs.Words.{unmasked, shaped, namesLive};
 
@@ -31,14 +34,14 @@ fn rises(s: &[u32]) -> bool
     bad == 0
 }
 
-// 0 where the loan lies below 2 ^ 24 and is not of right 0.
+// 0 where the loan is not of right 0.
 fn shape_flag(w: u32) -> u32
     ensures { λ r. ⌜ eqb r 0 ≡ shaped w ⌝ }
 {
     if loan::right(w).number() == 0 {
         return 1;
     }
-    w / 16777216
+    0
 }
 
 fn are_shaped(s: &[u32]) -> bool
@@ -89,6 +92,13 @@ fn are_zero(s: &[u32]) -> bool
     bad == 0
 }
 
+// Whether shift and count are within their limits.
+fn in_limits(header: Header) -> bool
+    ensures { λ r. ⌜ r ≡ shifts (header .shift) && leb (header .count) mostLoans ⌝ }
+{
+    ((header.shift as u32) <= Shift::MAX) & ((header.count as u32) <= Loans::MAX)
+}
+
 // Whether the slice is an image in order, by a mask of the living items: 0 where one lives, 255 where not.
 pub fn in_order(loans: &[u32], masks: &[u8; 64]) -> bool
     ensures { λ r. ⌜ r
@@ -98,7 +108,7 @@ pub fn in_order(loans: &[u32], masks: &[u8; 64]) -> bool
         return false;
     }
     let header = crate::header_of(loans);
-    if header.count > Loans::MAX {
+    if !in_limits(header) {
         return false;
     }
     let n = crate::in_use(loans);

@@ -1,12 +1,13 @@
 -- An answer and its number tell each other, since no two answers have one number; so a contract that names the answer says as much as
 -- one that names the number, and the case besides.
 use mathlib.Core.Path.{_≡_, refl, sym, ap, _∙_}
-use mathlib.Core.Bool.{Bool, true, false, not, _&&_, cond}
+use mathlib.Core.Bool.{Bool, true, false, not, _&&_, cond, false≢true}
 use Prim.Native.Nat.{ℕ, zero, suc, _-_}
 use native.Mathlib.Omega.{arith}
 use borrow.Author.Tests.{ne-eqb}
 use lib.Dec.{eqb}
 use Rattle.model.specs.declared.Facts.{Facts}
+use Rattle.model.specs.declared.Verb.{Verb}
 use Rattle.model.specs.declared.Arguments.{Arguments}
 use Rattle.model.specs.declared.Answer.{Answer}
 use Rattle.model.specs.declared.Answer.the-variants as is
@@ -14,7 +15,6 @@ use Rattle.model.specs.declared.Checked.the-variants as checked
 use Rattle.model.specs.declared.ChainChecked.the-variants as chain
 use Rattle.model.specs.Answers.{answer, numberOf, answerFor, Numbered, checkedNumber, checkedYes, checkedOf, Found, nothing, chainNumber, foundIn, foundSaid, chainCheckedOf, table, asked, knows}
 use Rattle.model.specs.Commands.{fits, items, rightDepth}
-use Rattle.bits.proofs.Sets.{by-cases}
 
 pub answer-for : (a : Answer) → answerFor (numberOf a) ≡ a
 unfolding answerFor
@@ -30,6 +30,8 @@ answer-for is.NoEdit = refl
 answer-for is.EditRight = refl
 answer-for is.Full = refl
 answer-for is.Malformed = refl
+answer-for is.ShiftBack = refl
+answer-for is.LastPast = refl
 
 pub answer-is : (a : Answer) (n : ℕ) → numberOf a ≡ n → a ≡ answerFor n
 answer-is a n e = sym (answer-for a) ∙ ap answerFor e
@@ -57,9 +59,11 @@ table-known f a =
     (known-row (knows (a .verb) 6 && f .on) 6 _ (record { answer = is.AlreadyLive; number = refl })
     (known-row (knows (a .verb) 7 && eqb (a .on) 0) 7 _ (record { answer = is.RootItem; number = refl })
     (known-row (knows (a .verb) 8 && not (f .edits)) 8 _ (record { answer = is.NoEdit; number = refl })
+    (known-row (knows (a .verb) 12 && f .back) 12 _ (record { answer = is.ShiftBack; number = refl })
     (known-row (knows (a .verb) 9 && eqb (a .right) 0) 9 _ (record { answer = is.EditRight; number = refl })
+    (known-row (knows (a .verb) 13 && f .past) 13 _ (record { answer = is.LastPast; number = refl })
     (known-row (knows (a .verb) 10 && f .full) 10 _ (record { answer = is.Full; number = refl })
-    (record { answer = is.Done; number = refl })))))))
+    (record { answer = is.Done; number = refl })))))))))
 
 pub answer-known : (f : Facts) (a : Arguments) → Known (answer f a)
 answer-known f a = known-row (not (fits a)) 3 _ (record { answer = is.OutOfRange; number = refl }) (table-known f a)
@@ -112,7 +116,28 @@ found-said f h = go (f .yes) refl
         k
     go false e = sym (h e)
 
--- answers that rest on equal facts are equal; only lend asks whether the loans are full
-pub table-same : (f g : Facts) → f .by ≡ g .by → f .on ≡ g .on → f .to ≡ g .to → f .edits ≡ g .edits
-    → (a : Arguments) → (knows (a .verb) 10 ≡ true → f .full ≡ g .full) → table f a ≡ table g a
-table-same f g x y z w a h = by-cases (knows (a .verb) 10) (λ l. rw (x, y, z, w, h l)) (λ l. rw (x, y, z, w, l))
+-- ---- answers that rest on equal facts are equal
+-- a row asks only of a command that knows it
+row-same : (k x y : Bool) → (k ≡ true → x ≡ y) → k && x ≡ k && y
+row-same true x y h = h refl
+row-same false x y h = refl
+
+-- only lend and shift ask about loans
+pub table-same : (f g : Facts) → f .by ≡ g .by → f .on ≡ g .on → f .to ≡ g .to → f .edits ≡ g .edits → (a : Arguments)
+    → (knows (a .verb) 12 ≡ true → f .back ≡ g .back) → (knows (a .verb) 13 ≡ true → f .past ≡ g .past)
+    → (knows (a .verb) 10 ≡ true → f .full ≡ g .full) → table f a ≡ table g a
+table-same f g x y z w a b p n =
+    rw (x, y, z, w, row-same (knows (a .verb) 12) (f .back) (g .back) b, row-same (knows (a .verb) 13) (f .past) (g .past) p, row-same (knows (a .verb) 10) (f .full) (g .full) n)
+
+-- a verb that no row about loans knows
+pub record LoanFree (v : Verb) : Type 0 where
+  pub back : knows v 12 ≡ false
+  pub past : knows v 13 ≡ false
+  pub full : knows v 10 ≡ false
+
+-- of such a command the facts about loans don't matter
+pub table-flat : (f g : Facts) → f .by ≡ g .by → f .on ≡ g .on → f .to ≡ g .to → f .edits ≡ g .edits → (a : Arguments)
+    → LoanFree (a .verb) → table f a ≡ table g a
+table-flat f g x y z w a h =
+    table-same f g x y z w a (λ n. absurd (false≢true (sym (h .back) ∙ n))) (λ n. absurd (false≢true (sym (h .past) ∙ n)))
+    (λ n. absurd (false≢true (sym (h .full) ∙ n)))

@@ -42,8 +42,9 @@ same-loan l m e =
     let c : l .right ≡ m .right = search (fst, snd, eqb-true) in
     let d : l .borrower ≡ m .borrower = search (fst, snd, eqb-true) in
     let f : l .depth ≡ m .depth = search (fst, snd, eqb-true) in
-    let r : loan (l .lender) (l .item) (l .right) (l .borrower) (l .depth) ≡ loan (m .lender) (m .item) (m .right) (m .borrower)
-    (m .depth) = cc in
+    let g : l .last ≡ m .last = search (fst, snd, eqb-true) in
+    let r : loan (l .lender) (l .item) (l .right) (l .borrower) (l .depth) (l .last) ≡ loan (m .lender) (m .item) (m .right) (m .borrower)
+    (m .depth) (m .last) = cc in
     r
 
 pub eqb-self : (n : ℕ) → eqb n n ≡ true
@@ -77,7 +78,9 @@ pub record Accepted (f : Facts) (a : Arguments) : Type 0 where
   pub by : f .by ≡ true
   pub named : knows (a .verb) 5 && not (f .on && f .to) ≡ false
   pub root : knows (a .verb) 7 && eqb (a .on) 0 ≡ false
+  pub back : knows (a .verb) 12 && f .back ≡ false
   pub right : knows (a .verb) 9 && eqb (a .right) 0 ≡ false
+  pub past : knows (a .verb) 13 && f .past ≡ false
   pub full : knows (a .verb) 10 && f .full ≡ false
 
 pub accepted : (f : Facts) (a : Arguments) → answer f a ≡ 0 → Accepted f a
@@ -88,9 +91,11 @@ accepted f a e =
     let p6 = blocked 5 (knows (a .verb) 6 && f .on) _ (p5 .1) in
     let p7 = blocked 6 (knows (a .verb) 7 && eqb (a .on) 0) _ (p6 .1) in
     let p8 = blocked 7 (knows (a .verb) 8 && not (f .edits)) _ (p7 .1) in
-    let p9 = blocked 8 (knows (a .verb) 9 && eqb (a .right) 0) _ (p8 .1) in
-    let p10 = blocked 9 (knows (a .verb) 10 && f .full) _ (p9 .1) in
-    record { fits = p3 .0; by = p4 .0; named = p5 .0; root = p7 .0; right = p9 .0; full = p10 .0 }
+    let p12 = blocked 11 (knows (a .verb) 12 && f .back) _ (p8 .1) in
+    let p9 = blocked 8 (knows (a .verb) 9 && eqb (a .right) 0) _ (p12 .1) in
+    let p13 = blocked 12 (knows (a .verb) 13 && f .past) _ (p9 .1) in
+    let p10 = blocked 9 (knows (a .verb) 10 && f .full) _ (p13 .1) in
+    record { fits = p3 .0; by = p4 .0; named = p5 .0; root = p7 .0; back = p12 .0; right = p9 .0; past = p13 .0; full = p10 .0 }
 
 -- both live
 pub both-live : (x y : Bool) → not (x && y) ≡ false → (x ≡ true) × (y ≡ true)
@@ -135,7 +140,7 @@ loans-ranged j v = all-mono (soundLoan (lives j)) rangedLoan (j .loans) (v .loan
 
 pub loans-fresh : LoanInv fresh
 unfolding fresh all distinct
-loans-fresh = record { loans-sound = refl; loans-distinct = refl; loans-few = omega arith }
+loans-fresh = record { loans-sound = refl; loans-distinct = refl; loans-few = omega arith; shift-in = omega arith }
 
 pub distinct-add : (l : Loan) (ls : List Loan) → distinct ls ≡ true → distinct (add sameLoan l ls) ≡ true
 unfolding add distinct
@@ -145,7 +150,7 @@ distinct-add l ls d = go (any (sameLoan l) ls) refl
     go true e = d
     go false e = both (ap not e) d
 
-any-less : (p f : Loan → Bool) (ls : List Loan) → any p ls ≡ false → any p (keep f ls) ≡ false
+pub any-less : (p f : Loan → Bool) (ls : List Loan) → any p ls ≡ false → any p (keep f ls) ≡ false
 unfolding any keep
 any-less p f [] h = refl
 any-less p f (l ∷ ls) h = go (f l) (p l) refl h (any-less p f ls)

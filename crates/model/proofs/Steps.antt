@@ -7,12 +7,14 @@ use Prim.Native.Nat.{ℕ}
 use borrow.Author.Tests.{eqb-true, eq-eqb}
 use lib.Dec.{eqb}
 use Rattle.model.specs.declared.Command.{Command}
-use Rattle.model.specs.declared.Command.the-variants.{Create, Delete, Allow, Withdraw, Lend, Recall}
+use Rattle.model.specs.declared.Command.the-variants.{Create, Delete, Allow, Withdraw, Lend, Recall, Shift}
 use Rattle.bits.specs.Sets.{keep, add}
 use Rattle.model.specs.Commands.{items, rightDepth, argumentsOf, fits}
-use Rattle.model.specs.Answers.{knows, flat}
+use Rattle.model.specs.Answers.{flat}
 use Rattle.model.specs.Journal.{Journal, grant, loan, sameGrant, sameLoan, isTo, names, loanNames, lives, facts, answered, fresh, apply, step, run}
 use Rattle.bits.proofs.Sets.{fst, snd, both, or-left, or-right, all-mono, all-keep, all-add}
+use Rattle.model.proofs.Answers.{LoanFree}
+use Rattle.model.proofs.Commands.{ranged-command}
 use Rattle.model.proofs.Invariant.{eqb-sym, neither, accepted, both-live, lives-create, lives-delete, inv-fresh, grow, loans-fresh, keep-loans, few-add, grow-loan, distinct-add}
 use Rattle.model.specs.Invariant.{ranged, sound, Inv, rangedLoan, soundLoan, LoanInv, Kept, Alike}
 
@@ -62,8 +64,9 @@ inv-apply j (Withdraw by to on right) v e =
           all-mono _ (sound (lives j)) _ (all-keep (sound (lives j)) (λ g. not (isTo to on right g)) (j .grants) (v .grants-sound))
           (λ g h. fst (sound (lives j) g) (not (isTo to on right g)) h);
     }
-inv-apply j (Lend by to on right depth) v e = record { root = v .root; grants-sound = v .grants-sound }
-inv-apply j (Recall by to on right depth) v e = record { root = v .root; grants-sound = v .grants-sound }
+inv-apply j (Lend by to on right depth last) v e = record { root = v .root; grants-sound = v .grants-sound }
+inv-apply j (Recall by to on right depth last) v e = record { root = v .root; grants-sound = v .grants-sound }
+inv-apply j (Shift by now) v e = record { root = v .root; grants-sound = v .grants-sound }
 
 pub inv-step : (j : Journal) (c : Command) → Inv j → Inv (step j c)
 inv-step j c v = go (eqb (answered j c) 0) refl
@@ -80,6 +83,7 @@ loans-apply j (Create by on) v e = record {
       (λ l h. grow-loan (lives j) (lives (apply j (Create by on))) l (λ i k. lives-create j by on i ∙ or-right (eqb i on) (lives j i) k) h);
   loans-distinct = v .loans-distinct;
   loans-few = v .loans-few;
+  shift-in = v .shift-in;
 }
 loans-apply j (Delete by on) v e =
     let k = keep-loans j (λ l. not (loanNames on l)) v in
@@ -98,28 +102,40 @@ loans-apply j (Delete by on) v e =
           both a (both (both (low (l .lender) (m .0) b) (low (l .item) (m .1) c)) (low (l .borrower) (n .1) d)));
       loans-distinct = k .1;
       loans-few = k .2;
+      shift-in = v .shift-in;
     }
 loans-apply j (Allow by to on right depth) v e =
-    record { loans-sound = v .loans-sound; loans-distinct = v .loans-distinct; loans-few = v .loans-few }
+    record { loans-sound = v .loans-sound; loans-distinct = v .loans-distinct; loans-few = v .loans-few; shift-in = v .shift-in }
 loans-apply j (Withdraw by to on right) v e =
-    record { loans-sound = v .loans-sound; loans-distinct = v .loans-distinct; loans-few = v .loans-few }
-loans-apply j (Lend by to on right depth) v e =
-    let k = accepted (facts j (argumentsOf (Lend by to on right depth))) (argumentsOf (Lend by to on right depth)) e in
+    record { loans-sound = v .loans-sound; loans-distinct = v .loans-distinct; loans-few = v .loans-few; shift-in = v .shift-in }
+loans-apply j (Lend by to on right depth last) v e =
+    let k = accepted (facts j (argumentsOf (Lend by to on right depth last))) (argumentsOf (Lend by to on right depth last)) e in
     let l = both-live (lives j on) (lives j to) (k .named) in
     record {
       loans-sound =
-          all-add (soundLoan (lives j)) sameLoan (loan by on right to depth) (j .loans)
+          all-add (soundLoan (lives j)) sameLoan (loan by on right to depth last) (j .loans)
           (both (both (k .fits) (ap not (k .right))) (both (both (k .by) (l .0)) (l .1))) (v .loans-sound);
-      loans-distinct = distinct-add (loan by on right to depth) (j .loans) (v .loans-distinct);
-      loans-few = few-add (loan by on right to depth) (j .loans) (v .loans-few) (k .full);
+      loans-distinct = distinct-add (loan by on right to depth last) (j .loans) (v .loans-distinct);
+      loans-few = few-add (loan by on right to depth last) (j .loans) (v .loans-few) (k .full);
+      shift-in = v .shift-in;
     }
-loans-apply j (Recall by to on right depth) v e =
-    let k = keep-loans j (λ l. not (sameLoan (loan by on right to depth) l)) v in
+loans-apply j (Recall by to on right depth last) v e =
+    let k = keep-loans j (λ l. not (sameLoan (loan by on right to depth last) l)) v in
     record {
       loans-sound =
-          all-mono _ (soundLoan (lives j)) _ (k .0) (λ l h. fst (soundLoan (lives j) l) (not (sameLoan (loan by on right to depth) l)) h);
+          all-mono _ (soundLoan (lives j)) _ (k .0)
+          (λ l h. fst (soundLoan (lives j) l) (not (sameLoan (loan by on right to depth last) l)) h);
       loans-distinct = k .1;
       loans-few = k .2;
+      shift-in = v .shift-in;
+    }
+loans-apply j (Shift by now) v e =
+    let k = accepted (facts j (argumentsOf (Shift by now))) (argumentsOf (Shift by now)) e in
+    record {
+      loans-sound = v .loans-sound;
+      loans-distinct = v .loans-distinct;
+      loans-few = v .loans-few;
+      shift-in = ranged-command (argumentsOf (Shift by now)) (k .fits) .shift;
     }
 
 pub loans-step : (j : Journal) (c : Command) → LoanInv j → LoanInv (step j c)
@@ -140,14 +156,15 @@ kept-run [] j v = v
 kept-run (c ∷ cs) j v = kept-run cs (step j c) (kept-step j c v)
 
 -- ---- lists and rows
--- lend alone asks whether the loans are full, and lists and rows lack it
-pub flat-lends : (c : Command) → flat c ≡ true → knows (argumentsOf c .verb) 10 ≡ false
-flat-lends (Create by on) h = refl
-flat-lends (Delete by on) h = refl
-flat-lends (Allow by to on right depth) h = refl
-flat-lends (Withdraw by to on right) h = refl
-flat-lends (Lend by to on right depth) h = absurd (false≢true h)
-flat-lends (Recall by to on right depth) h = refl
+-- lend and shift alone ask about loans, and lists and rows lack both
+pub flat-lends : (c : Command) → flat c ≡ true → LoanFree (argumentsOf c .verb)
+flat-lends (Create by on) h = record { back = refl; past = refl; full = refl }
+flat-lends (Delete by on) h = record { back = refl; past = refl; full = refl }
+flat-lends (Allow by to on right depth) h = record { back = refl; past = refl; full = refl }
+flat-lends (Withdraw by to on right) h = record { back = refl; past = refl; full = refl }
+flat-lends (Lend by to on right depth last) h = absurd (false≢true h)
+flat-lends (Recall by to on right depth last) h = record { back = refl; past = refl; full = refl }
+flat-lends (Shift by now) h = absurd (false≢true h)
 
 -- what lists and rows lack leaves both alone
 pub alike-apply : {j k : Journal} → Alike j k → (c : Command) → Alike (apply j c) (cond (flat c) (apply k c) k)
@@ -156,5 +173,6 @@ alike-apply a (Delete by on) =
     record { live = ap (keep (λ i. not (eqb i on))) (a .live); grants = ap (keep (λ g. not (names on g))) (a .grants) }
 alike-apply a (Allow by to on right depth) = record { live = a .live; grants = ap (add sameGrant (grant to on right depth)) (a .grants) }
 alike-apply a (Withdraw by to on right) = record { live = a .live; grants = ap (keep (λ g. not (isTo to on right g))) (a .grants) }
-alike-apply a (Lend by to on right depth) = record { live = a .live; grants = a .grants }
-alike-apply a (Recall by to on right depth) = record { live = a .live; grants = a .grants }
+alike-apply a (Lend by to on right depth last) = record { live = a .live; grants = a .grants }
+alike-apply a (Recall by to on right depth last) = record { live = a .live; grants = a .grants }
+alike-apply a (Shift by now) = record { live = a .live; grants = a .grants }

@@ -1,4 +1,4 @@
--- What a command answers: document 01's numbers, and the one table of answers for the journal and every unit.
+-- What a command answers: the numbers of documents 01 and 02, and the one table of answers for the journal and every unit.
 use mathlib.Core.Path.{_≡_}
 use mathlib.Core.Bool.{Bool, true, false, not, _&&_, _||_, cond}
 use Prim.Native.Nat.{ℕ}
@@ -37,6 +37,8 @@ numberOf is.NoEdit = 8
 numberOf is.EditRight = 9
 numberOf is.Full = 10
 numberOf is.Malformed = 11
+numberOf is.ShiftBack = 12
+numberOf is.LastPast = 13
 
 -- the answer whose number is n
 unfoldable pub answerFor : ℕ → Answer
@@ -52,7 +54,9 @@ answerFor n =
     cond (eqb n 8) is.NoEdit (
     cond (eqb n 9) is.EditRight (
     cond (eqb n 10) is.Full (
-    is.Malformed)))))))))))
+    cond (eqb n 12) is.ShiftBack (
+    cond (eqb n 13) is.LastPast (
+    is.Malformed)))))))))))))
 
 -- r is that answer, and n its number
 abbrev pub Numbered : Answer → ℕ → Type 0
@@ -112,8 +116,9 @@ knows verb.Create n = eqb n 6
 knows verb.Delete n = eqb n 5 || eqb n 7 || eqb n 8
 knows verb.Allow n = eqb n 5 || eqb n 8
 knows verb.Withdraw n = eqb n 5 || eqb n 8
-knows verb.Lend n = eqb n 5 || eqb n 9 || eqb n 10
+knows verb.Lend n = eqb n 5 || eqb n 9 || eqb n 13 || eqb n 10
 knows verb.Recall n = eqb n 5
+knows verb.Shift n = eqb n 8 || eqb n 12
 
 -- 'Each has the first four commands': lists and rows are called for what changes every image alike
 abbrev pub flatEdit : Edit → Bool
@@ -127,7 +132,7 @@ flatEdit edit.Nothing = false
 abbrev pub flat : Command → Bool
 flat c = flatEdit (argumentsOf c .edit)
 
--- 'The lowest number that applies is given': the rows past 3, in their order
+-- 'The lowest number that applies is given': the rows past 3, in their order, with '12 .. after 8; 13, for lend only, .. between 9 and 10'
 abbrev pub table : Facts → Arguments → ℕ
 table f a =
     4 when not (f .by) else
@@ -135,7 +140,9 @@ table f a =
     6 when knows (a .verb) 6 && f .on else
     7 when knows (a .verb) 7 && eqb (a .on) 0 else
     8 when knows (a .verb) 8 && not (f .edits) else
+    12 when knows (a .verb) 12 && f .back else
     9 when knows (a .verb) 9 && eqb (a .right) 0 else
+    13 when knows (a .verb) 13 && f .past else
     10 when knows (a .verb) 10 && f .full else
     0
 

@@ -1,10 +1,10 @@
--- Items, rights and depths: the limits of document 01, and the arguments of a command, raw and within their limits.
+-- Items, rights, depths and shifts: the limits of documents 01 and 02, and the arguments of a command, raw and within their limits.
 -- The commands are the enum `Command` of src/; its numbers are any numbers here.
 use mathlib.Core.Bool.{Bool, _&&_, cond}
 use Prim.Native.Nat.{ℕ, _≤_}
 use lib.Dec.{leb}
 use Rattle.model.specs.declared.Command.{Command}
-use Rattle.model.specs.declared.Command.the-variants.{Create, Delete, Allow, Withdraw, Lend, Recall}
+use Rattle.model.specs.declared.Command.the-variants.{Create, Delete, Allow, Withdraw, Lend, Recall, Shift}
 use Rattle.model.specs.declared.Verb.{Verb}
 use Rattle.model.specs.declared.Verb.the-variants as verb
 use Rattle.model.specs.declared.Edit.{Edit}
@@ -19,21 +19,27 @@ use Rattle.model.specs.declared.RightRead.{RightRead}
 use Rattle.model.specs.declared.RightRead.the-variants as rightRead
 use Rattle.model.specs.declared.DepthRead.{DepthRead}
 use Rattle.model.specs.declared.DepthRead.the-variants as depthRead
+use Rattle.model.specs.declared.ShiftRead.{ShiftRead}
+use Rattle.model.specs.declared.ShiftRead.the-variants as shiftRead
 use Rattle.model.specs.declared.Question.{Question}
 use Rattle.model.specs.declared.Question.the-variants as question
 
--- ---- the arguments; a command without a `to` names `on` alone, one without a right or depth has 0 there
-abbrev pub arguments : Verb → Edit → ℕ → ℕ → ℕ → ℕ → ℕ → Arguments
-arguments v e by to on right depth = record { verb = v; edit = e; by = by; to = to; on = on; right = right; depth = depth }
+-- ---- the arguments; a command without a `to` names `on` alone, one without a right, a depth or a shift has 0 there
+abbrev pub arguments : Verb → Edit → ℕ → ℕ → ℕ → ℕ → ℕ → ℕ → Arguments
+arguments v e by to on right depth shift =
+    record { verb = v; edit = e; by = by; to = to; on = on; right = right; depth = depth; shift = shift }
 
 -- each command's arguments, in the order in which the paper names them
 abbrev pub argumentsOf : Command → Arguments
-argumentsOf (Create by on) = arguments verb.Create edit.Create by on on 0 0
-argumentsOf (Delete by on) = arguments verb.Delete edit.Delete by on on 0 0
-argumentsOf (Allow by to on right depth) = arguments verb.Allow edit.Allow by to on right depth
-argumentsOf (Withdraw by to on right) = arguments verb.Withdraw edit.Withdraw by to on right 0
-argumentsOf (Lend by to on right depth) = arguments verb.Lend edit.Nothing by to on right depth
-argumentsOf (Recall by to on right depth) = arguments verb.Recall edit.Nothing by to on right depth
+argumentsOf (Create by on) = arguments verb.Create edit.Create by on on 0 0 0
+argumentsOf (Delete by on) = arguments verb.Delete edit.Delete by on on 0 0 0
+argumentsOf (Allow by to on right depth) = arguments verb.Allow edit.Allow by to on right depth 0
+argumentsOf (Withdraw by to on right) = arguments verb.Withdraw edit.Withdraw by to on right 0 0
+-- 'lend and recall gain `last` at the end'
+argumentsOf (Lend by to on right depth last) = arguments verb.Lend edit.Nothing by to on right depth last
+argumentsOf (Recall by to on right depth last) = arguments verb.Recall edit.Nothing by to on right depth last
+-- '`do=shift by now` .. needs edit on item 0', which is the item it is about
+argumentsOf (Shift by now) = arguments verb.Shift edit.Nothing by 0 0 0 0 now
 
 -- ---- the limits
 -- 'An item is .. numbered 0 to 63': two of them
@@ -44,13 +50,17 @@ items i k = leb i 63 && leb k 63
 abbrev pub rightDepth : ℕ → ℕ → Bool
 rightDepth r d = leb r 7 && leb d 7
 
+-- 'Number 3 also covers a shift above 255'
+abbrev pub shifts : ℕ → Bool
+shifts n = leb n 255
+
 -- '1,024 loans stand': the most that do
 abbrev pub mostLoans : ℕ
 mostLoans = 1024
 
 -- every argument is within its limit
 abbrev pub fits : Arguments → Bool
-fits a = items (a .by) (a .to) && items (a .to) (a .on) && rightDepth (a .right) (a .depth)
+fits a = items (a .by) (a .to) && items (a .to) (a .on) && rightDepth (a .right) (a .depth) && shifts (a .shift)
 
 -- the same, as bounds
 pub record Ranged (a : Arguments) : Type 0 where
@@ -59,8 +69,9 @@ pub record Ranged (a : Arguments) : Type 0 where
   pub on : a .on ≤ 63
   pub right : a .right ≤ 7
   pub depth : a .depth ≤ 7
+  pub shift : a .shift ≤ 255
 
--- the arguments as items, rights and depths
+-- the arguments as items, rights, depths and shifts
 abbrev pub typedOf : Arguments → Typed
 typedOf a = record {
   verb = a .verb;
@@ -70,11 +81,12 @@ typedOf a = record {
   on = record { 0 = a .on };
   right = record { 0 = a .right };
   depth = record { 0 = a .depth };
+  shift = record { 0 = a .shift };
 }
 
 -- and back
 abbrev pub rawOf : Typed → Arguments
-rawOf t = arguments (t .verb) (t .edit) (t .by .0) (t .to .0) (t .on .0) (t .right .0) (t .depth .0)
+rawOf t = arguments (t .verb) (t .edit) (t .by .0) (t .to .0) (t .on .0) (t .right .0) (t .depth .0) (t .shift .0)
 
 -- number 3 is `Beyond`
 abbrev pub withinOf : Arguments → Within
@@ -97,3 +109,7 @@ rightOf n = cond (leb n 7) (rightRead.Within (record { 0 = n })) rightRead.Beyon
 -- a number as a depth
 abbrev pub depthOf : ℕ → DepthRead
 depthOf n = cond (leb n 7) (depthRead.Within (record { 0 = n })) depthRead.Beyond
+
+-- a number as a shift
+abbrev pub shiftOf : ℕ → ShiftRead
+shiftOf n = cond (leb n 255) (shiftRead.Within (record { 0 = n })) shiftRead.Beyond

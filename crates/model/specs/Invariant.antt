@@ -4,7 +4,7 @@ use mathlib.Core.Bool.{Bool, true, not, _&&_}
 use Prim.Native.Nat.{ℕ, _≤_, _-_}
 use lib.Dec.{eqb}
 use Rattle.bits.specs.Sets.{any, all}
-use Rattle.model.specs.Commands.{items, rightDepth, mostLoans}
+use Rattle.model.specs.Commands.{items, rightDepth, shifts, mostLoans}
 use Rattle.model.specs.Journal.{Grant, Loan, Journal, sameLoan, lives}
 use mathlib.Core.List.{List, [], _∷_}
 use lib.ListN.{length}
@@ -19,7 +19,8 @@ sound f g = ranged g && (f (g .person) && f (g .item))
 
 -- every number of a loan is within its limit
 abbrev pub rangedLoan : Loan → Bool
-rangedLoan l = items (l .lender) (l .borrower) && items (l .borrower) (l .item) && rightDepth (l .right) (l .depth)
+rangedLoan l =
+    items (l .lender) (l .borrower) && items (l .borrower) (l .item) && rightDepth (l .right) (l .depth) && shifts (l .last)
 
 -- it is not of right 0, and it names living items
 abbrev pub soundLoan : (ℕ → Bool) → Loan → Bool
@@ -35,11 +36,12 @@ pub record Inv (j : Journal) : Type 0 where
   pub root : lives j 0 ≡ true
   pub grants-sound : all (sound (lives j)) (j .grants) ≡ true
 
--- each loan is sound, none is there twice, and '1,024 loans stand' at most
+-- each loan is sound, none is there twice, '1,024 loans stand' at most, and the shift is within its limit
 pub record LoanInv (j : Journal) : Type 0 where
   pub loans-sound : all (soundLoan (lives j)) (j .loans) ≡ true
   pub loans-distinct : distinct (j .loans) ≡ true
   pub loans-few : length (j .loans) ≤ mostLoans
+  pub shift-in : j .shift ≤ 255
 
 -- both
 pub record Kept (j : Journal) : Type 0 where

@@ -1,13 +1,14 @@
 -- The journal: document 01's plain machine, to which every unit is held.
--- Its state is the live items ('a roll of living items'), the grants and the loans, as lists without duplicates.
+-- Its state is the live items ('a roll of living items'), the grants and the loans, as lists without duplicates, and the shift
+-- (document 02: 'the journal has the shift in its state').
 use mathlib.Core.Path.{_≡_}
-use mathlib.Core.Bool.{Bool, true, not, _&&_, _||_, cond}
+use mathlib.Core.Bool.{Bool, true, false, not, _&&_, _||_, cond}
 use mathlib.Core.List.{List, [], _∷_}
 use Prim.Native.Nat.{ℕ}
 use lib.ListN.{length}
-use lib.Dec.{eqb, leb}
+use lib.Dec.{eqb, leb, ltb}
 use Rattle.model.specs.declared.Command.{Command}
-use Rattle.model.specs.declared.Command.the-variants.{Create, Delete, Allow, Withdraw, Lend, Recall}
+use Rattle.model.specs.declared.Command.the-variants.{Create, Delete, Allow, Withdraw, Lend, Recall, Shift}
 use Rattle.model.specs.declared.Arguments.{Arguments}
 use Rattle.model.specs.declared.Facts.{Facts}
 use Rattle.bits.specs.Sets.{any, keep, add}
@@ -21,27 +22,30 @@ pub record Grant : Type 0 where
   pub right : ℕ
   pub depth : ℕ
 
--- 'a set of loans (lender, item, right, borrower, depth)': a loan is a delegation of document 002
+-- 'a set of loans (lender, item, right, borrower, depth)': a loan is a delegation of document 002. Its last shift is '1 to 255; 0 means
+-- open-ended'
 pub record Loan : Type 0 where
   pub lender : ℕ
   pub item : ℕ
   pub right : ℕ
   pub borrower : ℕ
   pub depth : ℕ
+  pub last : ℕ
 
--- 'a plain machine': live items, grants and loans
+-- 'a plain machine': live items, grants and loans, and the present shift
 pub record Journal : Type 0 where
   pub live : List ℕ
   pub grants : List Grant
   pub loans : List Loan
+  pub shift : ℕ
 
 -- a grant of its parts
 abbrev pub grant : ℕ → ℕ → ℕ → ℕ → Grant
 grant p o r d = record { person = p; item = o; right = r; depth = d }
 
 -- a loan of its parts
-abbrev pub loan : ℕ → ℕ → ℕ → ℕ → ℕ → Loan
-loan p o r q d = record { lender = p; item = o; right = r; borrower = q; depth = d }
+abbrev pub loan : ℕ → ℕ → ℕ → ℕ → ℕ → ℕ → Loan
+loan p o r q d n = record { lender = p; item = o; right = r; borrower = q; depth = d; last = n }
 
 -- ---- tests
 abbrev pub sameGrant : Grant → Grant → Bool
@@ -51,7 +55,7 @@ sameGrant g h = eqb (g .person) (h .person) && eqb (g .item) (h .item) && eqb (g
 abbrev pub sameLoan : Loan → Loan → Bool
 sameLoan l m =
     eqb (l .lender) (m .lender) && eqb (l .item) (m .item) && eqb (l .right) (m .right) && eqb (l .borrower) (m .borrower)
-    && eqb (l .depth) (m .depth)
+    && eqb (l .depth) (m .depth) && eqb (l .last) (m .last)
 
 -- a grant to p on o, right r, at any depth
 abbrev pub isTo : ℕ → ℕ → ℕ → Grant → Bool
@@ -65,6 +69,14 @@ names i g = eqb (g .person) i || eqb (g .item) i
 abbrev pub loanNames : ℕ → Loan → Bool
 loanNames i l = eqb (l .lender) i || eqb (l .item) i || eqb (l .borrower) i
 
+-- 'A loan carries only while open-ended or not past its last shift': at shift now, with that last shift
+unfoldable pub carries : ℕ → ℕ → Bool
+carries now last = eqb last 0 || leb now last
+
+-- 'a loan with a last shift', past it or not
+abbrev pub isDated : Loan → Bool
+isDated l = not (eqb (l .last) 0)
+
 -- ---- the state
 abbrev pub lives : Journal → ℕ → Bool
 lives j i = any (eqb i) (j .live)
@@ -77,56 +89,71 @@ hasGrant j p o r = any (isTo p o r) (j .grants)
 abbrev pub standing : Journal → Grant → Bool
 standing j g = any (sameGrant g) (j .grants)
 
--- loan l stands, on item o and right r
-abbrev pub LoanStands : Journal → ℕ → ℕ → Loan → Type 0
-LoanStands j o r l = (any (sameLoan l) (j .loans) ≡ true) × (l .item ≡ o) × (l .right ≡ r)
+-- loan l stands
+abbrev pub standingLoan : Journal → Loan → Bool
+standingLoan j l = any (sameLoan l) (j .loans)
+
+-- loan l stands and carries, on item o and right r
+abbrev pub LoanCarries : Journal → ℕ → ℕ → Loan → Type 0
+LoanCarries j o r l = (standingLoan j l ≡ true) × (l .item ≡ o) × (l .right ≡ r) × (carries (j .shift) (l .last) ≡ true)
 
 -- the loan that lend and recall name
 abbrev pub loanIn : Arguments → Loan
-loanIn a = loan (a .by) (a .on) (a .right) (a .to) (a .depth)
+loanIn a = loan (a .by) (a .on) (a .right) (a .to) (a .depth) (a .shift)
 
--- what the table of answers asks of the journal; full: '1,024 loans stand and this is not one of them'
+-- what the table of answers asks of the journal; back: 'the new shift is below the present one and such a loan stands'; past: 'last is
+-- set and below the present shift'; full: '1,024 loans stand and this is not one of them'
 abbrev pub facts : Journal → Arguments → Facts
 facts j a = record {
   by = lives j (a .by);
   on = lives j (a .on);
   to = lives j (a .to);
   edits = hasGrant j (a .by) (a .on) 0;
-  full = leb mostLoans (length (j .loans)) && not (any (sameLoan (loanIn a)) (j .loans));
+  back = ltb (a .shift) (j .shift) && any isDated (j .loans);
+  past = not (carries (j .shift) (a .shift));
+  full = leb mostLoans (length (j .loans)) && not (standingLoan j (loanIn a));
 }
 
 -- a command's number
 abbrev pub answered : Journal → Command → ℕ
 answered j c = answer (facts j (argumentsOf c)) (argumentsOf c)
 
--- 'Fresh: item 0 lives, and one grant stands, to 0 on 0, right 0, depth 0'
+-- 'Fresh: item 0 lives, and one grant stands, to 0 on 0, right 0, depth 0'; 'fresh shift 0'
 unfoldable pub fresh : Journal
-fresh = record { live = 0 ∷ []; grants = grant 0 0 0 0 ∷ []; loans = [] }
+fresh = record { live = 0 ∷ []; grants = grant 0 0 0 0 ∷ []; loans = []; shift = 0 }
 
 -- what an accepted command does
 abbrev pub apply : Journal → Command → Journal
 -- 'on lives; grant (by, on, 0, 0)'
 apply j (Create by on) =
-    record { live = add eqb on (j .live); grants = add sameGrant (grant by on 0 0) (j .grants); loans = j .loans }
+    record { live = add eqb on (j .live); grants = add sameGrant (grant by on 0 0) (j .grants); loans = j .loans; shift = j .shift }
 -- 'on leaves the roll, and each grant or loan that names it .. ends'
 apply j (Delete by on) =
     record {
       live = keep (λ i. not (eqb i on)) (j .live);
       grants = keep (λ g. not (names on g)) (j .grants);
       loans = keep (λ l. not (loanNames on l)) (j .loans);
+      shift = j .shift;
     }
 -- 'that grant stands. An equal one already standing changes nothing'
 apply j (Allow by to on right depth) =
-    record { live = j .live; grants = add sameGrant (grant to on right depth) (j .grants); loans = j .loans }
+    record { live = j .live; grants = add sameGrant (grant to on right depth) (j .grants); loans = j .loans; shift = j .shift }
 -- 'every depth granted to that person there ends .. Loans stay'
 apply j (Withdraw by to on right) =
-    record { live = j .live; grants = keep (λ g. not (isTo to on right g)) (j .grants); loans = j .loans }
+    record { live = j .live; grants = keep (λ g. not (isTo to on right g)) (j .grants); loans = j .loans; shift = j .shift }
 -- 'that loan stands, also where the lender holds nothing yet'
-apply j (Lend by to on right depth) =
-    record { live = j .live; grants = j .grants; loans = add sameLoan (loan by on right to depth) (j .loans) }
+apply j (Lend by to on right depth last) =
+    record { live = j .live; grants = j .grants; loans = add sameLoan (loan by on right to depth last) (j .loans); shift = j .shift }
 -- 'just that loan of by ends, if it stands'
-apply j (Recall by to on right depth) =
-    record { live = j .live; grants = j .grants; loans = keep (λ l. not (sameLoan (loan by on right to depth) l)) (j .loans) }
+apply j (Recall by to on right depth last) =
+    record {
+      live = j .live;
+      grants = j .grants;
+      loans = keep (λ l. not (sameLoan (loan by on right to depth last) l)) (j .loans);
+      shift = j .shift;
+    }
+-- '`do=shift by now` sets the shift'
+apply j (Shift by now) = record { live = j .live; grants = j .grants; loans = j .loans; shift = now }
 
 -- 'a refused command changes nothing in it'
 abbrev pub step : Journal → Command → Journal
@@ -136,3 +163,18 @@ step j c = cond (eqb (answered j c) 0) (apply j c) j
 abbrev pub run : Journal → List Command → Journal
 run j [] = j
 run j (c ∷ cs) = run (step j c) cs
+
+-- p holds of the journal before the first of these commands and after each
+abbrev pub Throughout : (Journal → Bool) → Journal → List Command → Type 0
+Throughout p j [] = p j ≡ true
+Throughout p j (c ∷ cs) = (p j ≡ true) × Throughout p (step j c) cs
+
+-- a command as document 01 has it: '`last` .. 0 in document 01's listing and examples', and no shift
+abbrev pub isPlain : Command → Bool
+isPlain (Create by on) = true
+isPlain (Delete by on) = true
+isPlain (Allow by to on right depth) = true
+isPlain (Withdraw by to on right) = true
+isPlain (Lend by to on right depth last) = eqb last 0
+isPlain (Recall by to on right depth last) = eqb last 0
+isPlain (Shift by now) = false

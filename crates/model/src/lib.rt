@@ -1,6 +1,6 @@
-// Items, rights and depths, the commands that carry them, and the one table of refusals.
+// Items, rights, depths and shifts, the commands that carry them, and the one table of refusals.
 ghost use mathlib.Core.Path.{_≡_};
-ghost use Rattle.model.specs.Commands.{items, rightDepth, arguments, argumentsOf, fits, typedOf, withinOf, rawOf, questionOf, itemOf, rightOf, depthOf};
+ghost use Rattle.model.specs.Commands.{items, rightDepth, shifts, arguments, argumentsOf, fits, typedOf, withinOf, rawOf, questionOf, itemOf, rightOf, depthOf, shiftOf};
 ghost use Rattle.model.specs.Answers.{numberOf, answerFor, checkedOf, flatEdit, flat, knows, table, _when_else_};
 
 // An item number, 0 to 63.
@@ -11,6 +11,9 @@ pub struct Right(u32);
 
 // A depth, 0 to 7.
 pub struct Depth(u32);
+
+// A shift, 0 to 255. As the last shift of a loan, 0 says that the loan is open-ended.
+pub struct Shift(u32);
 
 impl Item {
     pub const MAX: u32 = 63;
@@ -93,6 +96,33 @@ impl Depth {
     }
 }
 
+impl Shift {
+    pub const MAX: u32 = 255;
+
+    // The range check of one number.
+    pub fn read(n: u32) -> ShiftRead
+        ensures { λ r. ⌜ r ≡ shiftOf n ⌝ }
+    {
+        if n > Shift::MAX {
+            return ShiftRead::Beyond;
+        }
+        ShiftRead::Within(Shift(n))
+    }
+
+    // The shift of a fresh unit.
+    pub fn first() -> Shift
+        ensures { λ r. ⌜ r .0 ≡ 0 ⌝ }
+    {
+        Shift(0)
+    }
+
+    pub fn number(self) -> u32
+        ensures { λ r. ⌜ r ≡ self .0 ⌝ }
+    {
+        self.0
+    }
+}
+
 // What a number is as an item.
 pub enum ItemRead {
     Within(Item),
@@ -108,6 +138,12 @@ pub enum RightRead {
 // What a number is as a depth.
 pub enum DepthRead {
     Within(Depth),
+    Beyond,
+}
+
+// What a number is as a shift.
+pub enum ShiftRead {
+    Within(Shift),
     Beyond,
 }
 
@@ -140,6 +176,7 @@ pub enum Command {
         on: u32,
         right: u32,
         depth: u32,
+        last: u32,
     },
     Recall {
         by: u32,
@@ -147,6 +184,11 @@ pub enum Command {
         on: u32,
         right: u32,
         depth: u32,
+        last: u32,
+    },
+    Shift {
+        by: u32,
+        now: u32,
     },
 }
 
@@ -158,6 +200,7 @@ pub enum Verb {
     Withdraw,
     Lend,
     Recall,
+    Shift,
 }
 
 // What a command changes in lists, rows and the grants of a chain unit alike.
@@ -169,7 +212,7 @@ pub enum Edit {
     Nothing,
 }
 
-// Any command's arguments.
+// Any command's arguments. The shift is the last one of a loan, or the one that begins.
 pub struct Arguments {
     pub verb: Verb,
     pub edit: Edit,
@@ -178,6 +221,7 @@ pub struct Arguments {
     pub on: u32,
     pub right: u32,
     pub depth: u32,
+    pub shift: u32,
 }
 
 // The same, each number within its range.
@@ -189,6 +233,7 @@ pub struct Typed {
     pub on: Item,
     pub right: Right,
     pub depth: Depth,
+    pub shift: Shift,
 }
 
 pub enum Within {
@@ -196,12 +241,15 @@ pub enum Within {
     Beyond,
 }
 
-// What the table asks of a state for one command: whether by, on and to live, by edits on, and loans are full.
+// What the table asks of a state for one command: whether by, on and to live, by edits on, the shift goes back while a loan has a last
+// one, the loan is past its last shift, and loans are full.
 pub struct Facts {
     pub by: bool,
     pub on: bool,
     pub to: bool,
     pub edits: bool,
+    pub back: bool,
+    pub past: bool,
     pub full: bool,
 }
 
@@ -219,6 +267,8 @@ pub enum Answer {
     EditRight,
     Full,
     Malformed,
+    ShiftBack,
+    LastPast,
 }
 
 impl Answer {
@@ -238,6 +288,8 @@ impl Answer {
             Answer::EditRight => 9,
             Answer::Full => 10,
             Answer::Malformed => 11,
+            Answer::ShiftBack => 12,
+            Answer::LastPast => 13,
         }
     }
 }
@@ -312,6 +364,12 @@ fn are_right_depth(r: u32, d: u32) -> bool
     r <= Right::MAX && d <= Depth::MAX
 }
 
+fn is_shift(n: u32) -> bool
+    ensures { λ r. ⌜ r ≡ shifts n ⌝ }
+{
+    n <= Shift::MAX
+}
+
 impl Verb {
     // Whether the table has number n for it, from 5 on.
     fn knows(self, n: u32) -> bool
@@ -322,8 +380,9 @@ impl Verb {
             Verb::Delete => (n == 5) | (n == 7) | (n == 8),
             Verb::Allow => (n == 5) | (n == 8),
             Verb::Withdraw => (n == 5) | (n == 8),
-            Verb::Lend => (n == 5) | (n == 9) | (n == 10),
+            Verb::Lend => (n == 5) | (n == 9) | (n == 13) | (n == 10),
             Verb::Recall => n == 5,
+            Verb::Shift => (n == 8) | (n == 12),
         }
     }
 }
@@ -344,8 +403,17 @@ impl Edit {
 }
 
 impl Arguments {
-    fn of(verb: Verb, edit: Edit, by: u32, to: u32, on: u32, right: u32, depth: u32) -> Arguments
-        ensures { λ r. ⌜ r ≡ arguments verb edit by to on right depth ⌝ }
+    fn of(
+        verb: Verb,
+        edit: Edit,
+        by: u32,
+        to: u32,
+        on: u32,
+        right: u32,
+        depth: u32,
+        shift: u32,
+    ) -> Arguments
+        ensures { λ r. ⌜ r ≡ arguments verb edit by to on right depth shift ⌝ }
     {
         Arguments {
             verb,
@@ -355,6 +423,7 @@ impl Arguments {
             on,
             right,
             depth,
+            shift,
         }
     }
 
@@ -364,6 +433,7 @@ impl Arguments {
         are_items(self.by, self.to)
             & are_items(self.to, self.on)
             & are_right_depth(self.right, self.depth)
+            & is_shift(self.shift)
     }
 
     // Only after the range check.
@@ -380,21 +450,22 @@ impl Arguments {
             on: Item(self.on),
             right: Right(self.right),
             depth: Depth(self.depth),
+            shift: Shift(self.shift),
         }
     }
 }
 
 impl Command {
-    // One without a to names on alone, one without a right or depth has 0 there.
+    // One without a to names on alone, one without a right, a depth or a shift has 0 there. Shift is about item 0.
     pub fn arguments(self) -> Arguments
         ensures { λ r. ⌜ r ≡ argumentsOf self ⌝ }
     {
         match self {
             Command::Create { by, on } => {
-                Arguments::of(Verb::Create, Edit::Create, by, on, on, 0, 0)
+                Arguments::of(Verb::Create, Edit::Create, by, on, on, 0, 0, 0)
             }
             Command::Delete { by, on } => {
-                Arguments::of(Verb::Delete, Edit::Delete, by, on, on, 0, 0)
+                Arguments::of(Verb::Delete, Edit::Delete, by, on, on, 0, 0, 0)
             }
             Command::Allow {
                 by,
@@ -402,9 +473,9 @@ impl Command {
                 on,
                 right,
                 depth,
-            } => Arguments::of(Verb::Allow, Edit::Allow, by, to, on, right, depth),
+            } => Arguments::of(Verb::Allow, Edit::Allow, by, to, on, right, depth, 0),
             Command::Withdraw { by, to, on, right } => {
-                Arguments::of(Verb::Withdraw, Edit::Withdraw, by, to, on, right, 0)
+                Arguments::of(Verb::Withdraw, Edit::Withdraw, by, to, on, right, 0, 0)
             }
             Command::Lend {
                 by,
@@ -412,14 +483,19 @@ impl Command {
                 on,
                 right,
                 depth,
-            } => Arguments::of(Verb::Lend, Edit::Nothing, by, to, on, right, depth),
+                last,
+            } => Arguments::of(Verb::Lend, Edit::Nothing, by, to, on, right, depth, last),
             Command::Recall {
                 by,
                 to,
                 on,
                 right,
                 depth,
-            } => Arguments::of(Verb::Recall, Edit::Nothing, by, to, on, right, depth),
+                last,
+            } => Arguments::of(Verb::Recall, Edit::Nothing, by, to, on, right, depth, last),
+            Command::Shift { by, now } => {
+                Arguments::of(Verb::Shift, Edit::Nothing, by, 0, 0, 0, 0, now)
+            }
         }
     }
 
@@ -454,7 +530,7 @@ fn row(applies: bool, answer: Answer, below: Answer) -> Answer
     below
 }
 
-// Numbers 4 to 10, from the last row of the table up: the lowest that applies.
+// Numbers 4 to 8, 12, 9, 13 and 10, from the last row of the table up: the first that applies.
 pub fn judge(t: Typed, f: Facts) -> Answer
     ensures { λ r. ⌜ r ≡ answerFor (table f (rawOf t)) ⌝ }
 {
@@ -462,7 +538,9 @@ pub fn judge(t: Typed, f: Facts) -> Answer
     let on = t.on;
     let right = t.right;
     let n = row(verb.knows(10) & f.full, Answer::Full, Answer::Done);
+    let n = row(verb.knows(13) & f.past, Answer::LastPast, n);
     let n = row(verb.knows(9) & (right.0 == 0), Answer::EditRight, n);
+    let n = row(verb.knows(12) & f.back, Answer::ShiftBack, n);
     let n = row(verb.knows(8) & !f.edits, Answer::NoEdit, n);
     let n = row(verb.knows(7) & (on.0 == 0), Answer::RootItem, n);
     let n = row(verb.knows(6) & f.on, Answer::AlreadyLive, n);

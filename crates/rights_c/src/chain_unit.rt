@@ -1,6 +1,6 @@
 // The chain unit for C.
 use crate::reply;
-ghost use Rattle.model.specs.declared.Command.the-variants.{Create, Delete, Allow, Withdraw, Lend, Recall};
+ghost use Rattle.model.specs.declared.Command.the-variants.{Create, Delete, Allow, Withdraw, Lend, Recall, Shift};
 ghost use Rattle.delegation.specs.Images.{images};
 ghost use Rattle.delegation.specs.ChainUnit.{chainUnit};
 ghost use Rattle.rights_c.specs.Exports.{Gives, ChainFreshens, ChainAnswers, ChainInspects};
@@ -84,11 +84,12 @@ pub extern "C" fn rights_chains_lend(
     on: u32,
     right: u32,
     depth: u32,
+    last: u32,
 ) -> u32
-    ensures { λ r. ⌜ Gives chainUnit (images (now (grants .entry)) (now (loans .entry))) (Lend by to on right depth) r
+    ensures { λ r. ⌜ Gives chainUnit (images (now (grants .entry)) (now (loans .entry))) (Lend by to on right depth last) r
         (images (now (grants .exit)) (now (loans .exit))) ⌝ }
 {
-    let a = chains::lend(grants, loans, by, to, on, right, depth);
+    let a = chains::lend(grants, loans, by, to, on, right, depth, last);
     a.number()
 }
 
@@ -101,11 +102,26 @@ pub extern "C" fn rights_chains_recall(
     on: u32,
     right: u32,
     depth: u32,
+    last: u32,
 ) -> u32
-    ensures { λ r. ⌜ Gives chainUnit (images (now (grants .entry)) (now (loans .entry))) (Recall by to on right depth) r
+    ensures { λ r. ⌜ Gives chainUnit (images (now (grants .entry)) (now (loans .entry))) (Recall by to on right depth last) r
         (images (now (grants .exit)) (now (loans .exit))) ⌝ }
 {
-    let a = chains::recall(grants, loans, by, to, on, right, depth);
+    let a = chains::recall(grants, loans, by, to, on, right, depth, last);
+    a.number()
+}
+
+#[no_mangle]
+pub extern "C" fn rights_chains_shift(
+    grants: &mut [u8],
+    loans: &mut [u32],
+    by: u32,
+    shift: u32,
+) -> u32
+    ensures { λ r. ⌜ Gives chainUnit (images (now (grants .entry)) (now (loans .entry))) (Shift by shift) r
+        (images (now (grants .exit)) (now (loans .exit))) ⌝ }
+{
+    let a = chains::shift(grants, loans, by, shift);
     a.number()
 }
 

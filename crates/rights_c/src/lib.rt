@@ -12,14 +12,14 @@ mod rows_unit;
 
 #[no_mangle]
 pub extern "C" fn rights_version() -> u32
-    ensures { λ r. ⌜ r ≡ 10100 ⌝ }
+    ensures { λ r. ⌜ r ≡ 10200 ⌝ }
 {
     Version::number()
 }
 
 #[no_mangle]
 pub extern "C" fn rights_layout_date() -> u32
-    ensures { λ r. ⌜ r ≡ 20261115 ⌝ }
+    ensures { λ r. ⌜ r ≡ 20261116 ⌝ }
 {
     Layout::date()
 }

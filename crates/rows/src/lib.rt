@@ -105,6 +105,8 @@ fn facts(image: &[u8], t: Typed) -> Facts
         on: live::is_live(image, on),
         to: live::is_live(image, to),
         edits: holds(image, by, on, edit),
+        back: false,
+        past: false,
         full: false,
     }
 }

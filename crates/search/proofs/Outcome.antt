@@ -3,7 +3,6 @@ use mathlib.Core.Path.{_≡_, sym, ap, _∙_, subst}
 use mathlib.Core.List.{List, _++_}
 use Prim.Native.Nat.{ℕ, _+_, _-_, _*_, _≤_}
 use native.Mathlib.Omega.{arith}
-use lib.Dec.{eqb}
 use borrow.Author.Tests.{ne-eqb}
 use Rattle.model.specs.Commands.{depthOf}
 use Rattle.model.specs.Answers.{foundSaid}
@@ -12,8 +11,8 @@ use Rattle.model.specs.declared.DepthRead.the-variants as depthRead
 use Rattle.model.specs.declared.ChainChecked.the-variants as chain
 use lib.ListN.{drop, take, replicate}
 use Rattle.bits.specs.Sets.{keep, tabulate, most, firstAt}
-use Rattle.delegation.specs.Loans.{keyOf, countOf, used}
-use Rattle.delegation.specs.Search.{picked, grantRound, roundAt, column, traced, roundsOf, heightOf, lengthOf, foundOf, chainOf}
+use Rattle.delegation.specs.Loans.{countOf, shiftIn, used}
+use Rattle.delegation.specs.Search.{picks, picked, grantRound, roundAt, column, traced, roundsOf, heightOf, lengthOf, foundOf, chainOf}
 use Rattle.model.proofs.Commands.{depth-is, depth-never}
 use Rattle.delegation.proofs.Search.{height-le, found-no, found-yes}
 use Rattle.search.specs.Entry.{entryFound}
@@ -37,24 +36,24 @@ pub record Searched (gs t : List ℕ) (key who : ℕ) (ls : List ℕ) (rounds : 
   pub height-in : value ≤ 8
   pub length-is : at ≡ lengthOf gs t key who
 
--- n loans are in use
-pub searched : (gs t : List ℕ) (key who n : ℕ) (first ls : List ℕ) (rounds : List (List ℕ)) (value at : ℕ) → n ≡ countOf t → who ≤ 63
-    → ls ≡ keep (λ w. eqb (keyOf w) key) (take (n + 1 - 1) (drop 1 t)) → first ≡ grantRound gs (8 + 64 * key)
+-- n loans are in use, and the shift is s
+pub searched : (gs t : List ℕ) (key who n s : ℕ) (first ls : List ℕ) (rounds : List (List ℕ)) (value at : ℕ) → n ≡ countOf t → s ≡ shiftIn t
+    → who ≤ 63 → ls ≡ keep (picks s key) (take (n + 1 - 1) (drop 1 t)) → first ≡ grantRound gs (8 + 64 * key)
     → Settled (tabulate 8 (roundAt first ls)) rounds who
     → value ≡ most (column rounds who) 8 → at ≡ firstAt (column rounds who) 8 → Searched gs t key who ls rounds value at
 unfolding used picked roundsOf heightOf lengthOf
-searched gs t key who n first ls rounds value at n-is h l f r v a =
+searched gs t key who n s first ls rounds value at n-is s-is h l f r v a =
     let m : n + 1 - 1 ≡ countOf t = omega arith in
-    let e : ls ≡ picked t key = l ∙ (λ j. keep (λ w. eqb (keyOf w) key) (take (m j) (drop 1 t))) in
-    let s : Settled (roundsOf gs t key) rounds who = subst (λ (x : List (List ℕ)). Settled x rounds who)
+    let e : ls ≡ picked t key = l ∙ (λ j. keep (picks (s-is j) key) (take (m j) (drop 1 t))) in
+    let k : Settled (roundsOf gs t key) rounds who = subst (λ (x : List (List ℕ)). Settled x rounds who)
     (λ j. tabulate 8 (roundAt (f j) (e j))) r in
-    let u : value ≡ heightOf gs t key who = v ∙ s .value in
+    let u : value ≡ heightOf gs t key who = v ∙ k .value in
     record {
       loans-are = e;
-      rounds-are = s;
+      rounds-are = k;
       height-is = u;
       height-in = omega (arith, height-le gs t key who h);
-      length-is = a ∙ s .at;
+      length-is = a ∙ k .at;
     }
 
 module _ {gs t : List ℕ} {key who : ℕ} {ls : List ℕ} {rounds : List (List ℕ)} {value at : ℕ} (s : Searched gs t key who ls rounds value at) where

@@ -5,12 +5,13 @@ use Prim.Native.Nat.{ℕ, _≤_}
 use lib.ListN.{length}
 use Rattle.model.specs.Commands.{mostLoans}
 use Rattle.layouts.specs.Layouts.{grantCells}
-use Rattle.delegation.specs.Loans.{loanWords, countOf}
+use Rattle.delegation.specs.Loans.{loanWords, countOf, shiftIn}
 
--- both images and the buffer have their lengths, the count and the arguments are within their limits
+-- both images and the buffer have their lengths, the shift, the count and the arguments are within their limits
 pub record InShape (gs t : List ℕ) (who on right room : ℕ) : Type 0 where
   pub grants : length gs ≡ grantCells
   pub loans : length t ≡ loanWords
+  pub shift : shiftIn t ≤ 255
   pub count : countOf t ≤ mostLoans
   pub person : who ≤ 63
   pub item : on ≤ 63

@@ -1,5 +1,5 @@
 // The search for the best chain of a person on an item and right: the greatest last allowance of any, and a chain that has it.
-// The loans of the item and right are picked once. Round k has for each person 0, or 1 + the greatest allowance of the chains
+// The carrying loans of the item and right are picked once. Round k has for each person 0, or 1 + the greatest allowance of the chains
 // to that person with exactly k loans; a loan costs one, so rounds 0 to 7 have all chains.
 use delegation::loan;
 use delegation::loan::Header;
@@ -8,18 +8,19 @@ use model::Depth;
 use model::DepthRead;
 use model::Item;
 use model::Right;
+use model::Shift;
 ghost use mathlib.Core.Path.{_≡_};
 ghost use mathlib.Core.Bool.{cond};
 ghost use mathlib.Core.List.{_++_};
-ghost use Prim.Native.Nat.{ℕ, _+_, _-_, _*_, _≤_, _<_, max};
+ghost use Prim.Native.Nat.{ℕ, _+_, _-_, _*_, _%_, _≤_, _<_, max};
 ghost use lib.Dec.{eqb, ltb};
 ghost use lib.ListN.{length, getD, set, take, replicate};
 ghost use Rattle.bits.specs.Sets.{keep, tabulate, most, firstAt};
 ghost use Rattle.model.specs.Commands.{mostLoans};
 ghost use Rattle.model.specs.Answers.{foundSaid};
 ghost use Rattle.layouts.specs.Layouts.{grantCells};
-ghost use Rattle.delegation.specs.Loans.{keyOf, loanWords, countOf, lender, borrower};
-ghost use Rattle.delegation.specs.Search.{gain, arrive, grantRound, nextRound, roundAt, column, lenderTo, traced, foundOf, chainOf};
+ghost use Rattle.delegation.specs.Loans.{keyOf, loanWords, countOf, shiftIn, lender, borrower};
+ghost use Rattle.delegation.specs.Search.{picks, gain, arrive, grantRound, nextRound, roundAt, column, lenderTo, traced, foundOf, chainOf};
 ghost use Rattle.search.specs.InShape.{InShape};
 ghost use Rattle.search.specs.Entry.{entryFound};
 ghost use Rattle.search.specs.Picked.{Picked};
@@ -61,11 +62,32 @@ fn in_use(loans: &[u32]) -> usize
     header.count as usize
 }
 
+// The present shift, cut to its range.
+fn present(loans: &[u32]) -> Shift
+    requires { ⌜ 0 < length (now loans) ⌝ }
+    ensures { λ r. ⌜ r .0 ≡ shiftIn (now (loans .entry)) % 256 ⌝ }
+{
+    let header = Header::read(loans[0]);
+    header.present()
+}
+
 // 1 for a loan of the key, else 0.
 fn counted(w: u32, key: u32) -> u32
     ensures { λ r. ⌜ (r ≤ 1) × (r ≡ cond (eqb (keyOf w) key) 1 0) ⌝ }
 {
     if loan::key_of(w) == key { 1 } else { 0 }
+}
+
+// 1 for a loan of the key that carries at that shift, else 0.
+fn taken(w: u32, key: u32, shift: Shift) -> u32
+    ensures { λ r. ⌜ (r ≤ 1) × (r ≡ cond (picks (shift .0) key w) 1 0) ⌝ }
+{
+    let last = loan::last(w);
+    if (loan::key_of(w) == key) & loan::carries(shift, last) {
+        1
+    } else {
+        0
+    }
 }
 
 // 0 only where none of the 16 loans from place `at` on is of the key.
@@ -85,47 +107,57 @@ fn seen(loans: &[u32], at: usize, key: u32) -> u32
 
 // Picks among the loans from place `from` to place `to`, after the `m` picked before. Each loan is written, and the next one
 // overwrites it where it does not count.
-fn pick_part(out: &mut [u32], loans: &[u32], m: usize, from: usize, to: usize, key: u32) -> usize
+fn pick_part(
+    out: &mut [u32],
+    loans: &[u32],
+    m: usize,
+    from: usize,
+    to: usize,
+    key: u32,
+    shift: Shift,
+) -> usize
     requires { ⌜ (length (now loans) ≤ length (now out)) × (from ≤ to) × (to ≤ length (now loans))
-        × Picked (now loans) key from m (now out) ⌝ }
-    ensures { λ r. ⌜ Picked (now (loans .entry)) key to r (now (out .exit)) ⌝ }
+        × Picked (now loans) (shift .0) key from m (now out) ⌝ }
+    ensures { λ r. ⌜ Picked (now (loans .entry)) (shift .0) key to r (now (out .exit)) ⌝ }
 {
     let mut m = m;
     let mut i = from;
     while i < to {
         let w = loans[i];
         out[m] = w;
-        m += counted(w, key) as usize;
+        m += taken(w, key, shift) as usize;
         i += 1;
     }
     m
 }
 
 // The same for 16 loans. Most have another key, and a test of all at once passes them over.
-fn pick_block(out: &mut [u32], loans: &[u32], m: usize, at: usize, key: u32) -> usize
-    requires { ⌜ (length (now loans) ≤ length (now out)) × (at + 16 ≤ length (now loans)) × Picked (now loans) key at m (now out) ⌝ }
-    ensures { λ r. ⌜ Picked (now (loans .entry)) key (at + 16) r (now (out .exit)) ⌝ }
+fn pick_block(out: &mut [u32], loans: &[u32], m: usize, at: usize, key: u32, shift: Shift) -> usize
+    requires { ⌜ (length (now loans) ≤ length (now out)) × (at + 16 ≤ length (now loans))
+        × Picked (now loans) (shift .0) key at m (now out) ⌝ }
+    ensures { λ r. ⌜ Picked (now (loans .entry)) (shift .0) key (at + 16) r (now (out .exit)) ⌝ }
 {
     if seen(loans, at, key) == 0 {
         return m;
     }
     let to = at + BLOCK;
-    pick_part(out, loans, m, at, to, key)
+    pick_part(out, loans, m, at, to, key, shift)
 }
 
-// The loans of the key, in their order, to the front of `out`, and their number.
-fn pick(out: &mut [u32], loans: &[u32], key: u32) -> usize
+// The loans of the key that carry at that shift, in their order, to the front of `out`, and their number.
+fn pick(out: &mut [u32], loans: &[u32], key: u32, shift: Shift) -> usize
     requires { ⌜ length (now loans) ≤ length (now out) ⌝ }
-    ensures { λ r. ⌜ (r ≤ length (now (loans .entry))) × (take r (now (out .exit)) ≡ keep (λ w. eqb (keyOf w) key) (now (loans .entry))) ⌝ }
+    ensures { λ r. ⌜ (r ≤ length (now (loans .entry)))
+        × (take r (now (out .exit)) ≡ keep (picks (shift .0) key) (now (loans .entry))) ⌝ }
 {
     let end = loans.len();
     let mut m = 0;
     let mut i = 0;
     while BLOCK <= end - i {
-        m = pick_block(out, loans, m, i, key);
+        m = pick_block(out, loans, m, i, key, shift);
         i += BLOCK;
     }
-    pick_part(out, loans, m, i, end, key)
+    pick_part(out, loans, m, i, end, key, shift)
 }
 
 // Round 0: the greatest depth + 1 of each of the 64 grant bytes from `base` on, or 0.
@@ -351,12 +383,13 @@ fn best_in(
     who: Item,
 ) -> ChainChecked
     requires { ⌜ (length (now loans) ≡ loanWords) × (countOf (now loans) ≤ length (now out)) × (length (now out) ≤ mostLoans)
-        × (length (now grants) ≡ grantCells) × (key ≤ 511) × (who .0 ≤ 63) × (length (now chain) ≡ 8) ⌝ }
+        × (shiftIn (now loans) ≤ 255) × (length (now grants) ≡ grantCells) × (key ≤ 511) × (who .0 ≤ 63) × (length (now chain) ≡ 8) ⌝ }
     ensures { λ r. ⌜ (r ≡ foundSaid (foundOf (now (grants .entry)) (now (loans .entry)) key (who .0)))
         × (now (chain .exit) ≡ chainOf (now (grants .entry)) (now (loans .entry)) key (who .0)) ⌝ }
 {
     let end = in_use(loans) + 1;
-    let m = pick(out, &loans[1..end], key);
+    let shift = present(loans);
+    let m = pick(out, &loans[1..end], key, shift);
     let ls = &out[..m];
     let base = ROLL + PERSONS * key as usize;
     let first = grant_round(grants, base);

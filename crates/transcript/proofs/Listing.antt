@@ -1,8 +1,8 @@
--- Document 01's listing: what its lines ask for; and lines that are malformed. By computation.
+-- Document 01's listing, with document 02's `last`: what its lines ask for; and lines that are malformed. By computation.
 use mathlib.Core.Path.{_≡_, refl}
 use Prim.Native.Nat.{ℕ}
 use mathlib.Core.List.{List, [], _∷_, _++_}
-use Rattle.model.specs.declared.Command.the-variants.{Create, Allow, Withdraw, Lend}
+use Rattle.model.specs.declared.Command.the-variants.{Create, Allow, Withdraw, Lend, Shift}
 use Rattle.lines.specs.declared.Parsed.the-variants.{Run, Ask, Malformed}
 use Rattle.lines.specs.Bytes.{bytes}
 use Rattle.lines.specs.Show.{shown}
@@ -15,27 +15,30 @@ use Rattle.transcript.specs.Program.{asksOf, outputFrom, outputOf}
 unfoldable pub listing-input : List ℕ
 listing-input =
     bytes "do=create by=0 on=3\ndo=create by=0 on=4\ndo=create by=0 on=9\ndo=allow by=0 to=3 on=9 right=1 depth=1\n"
-    ++ bytes "do=lend by=3 to=4 on=9 right=1 depth=0\ndo=check who=4 on=9 right=1\ndo=withdraw by=0 to=3 on=9 right=1\ndo=check who=4 on=9 right=1\n"
+    ++ bytes "do=lend by=3 to=4 on=9 right=1 depth=0 last=0\ndo=check who=4 on=9 right=1\ndo=withdraw by=0 to=3 on=9 right=1\ndo=check who=4 on=9 right=1\n"
 
 pub listing-asks :
     asksOf listing-input
-    ≡ Run (Create 0 3) ∷ Run (Create 0 4) ∷ Run (Create 0 9) ∷ Run (Allow 0 3 9 1 1) ∷ Run (Lend 3 4 9 1 0) ∷ Ask 4 9 1 ∷ Run
+    ≡ Run (Create 0 3) ∷ Run (Create 0 4) ∷ Run (Create 0 9) ∷ Run (Allow 0 3 9 1 1) ∷ Run (Lend 3 4 9 1 0 0) ∷ Ask 4 9 1 ∷ Run
     (Withdraw 0 3 9 1)
     ∷ Ask 4 9 1 ∷ []
 unfolding listing-input linesFrom parseLine orElse meaning readBy andThen numberAt decimal
 listing-asks = refl
 
 -- malformed: a leading zero, a number too large, a field too many, two spaces, a space at the end, an empty line, fields in another order,
--- a line that is not ended
+-- lend and recall without `last`, shift without `now`, a line that is not ended
 pub malformed-lines :
     asksOf (bytes "do=create by=00 on=3\ndo=check who=4 on=9 right=4294967296\ndo=create by=0 on=3 right=1\ndo=create  by=0 on=3\n"
-    ++ bytes "do=create by=0 on=3 \n\ndo=create on=3 by=0\ndo=create by=0 on=3")
-    ≡ Malformed ∷ Malformed ∷ Malformed ∷ Malformed ∷ Malformed ∷ Malformed ∷ Malformed ∷ Malformed ∷ []
+    ++ bytes "do=create by=0 on=3 \n\ndo=create on=3 by=0\ndo=lend by=3 to=4 on=9 right=1 depth=0\n"
+    ++ bytes "do=recall by=3 to=4 on=9 right=1 depth=0\ndo=shift by=0\ndo=create by=0 on=3")
+    ≡ Malformed ∷ Malformed ∷ Malformed ∷ Malformed ∷ Malformed ∷ Malformed ∷ Malformed ∷ Malformed ∷ Malformed ∷ Malformed ∷ Malformed ∷ []
 unfolding linesFrom parseLine orElse meaning readBy andThen numberAt decimal
 malformed-lines = refl
 
 -- the largest value
-pub largest-value : asksOf (bytes "do=lend by=3 to=4 on=9 right=1 depth=4294967295\n") ≡ Run (Lend 3 4 9 1 4294967295) ∷ []
+pub largest-value :
+    asksOf (bytes "do=lend by=3 to=4 on=9 right=1 depth=4294967295 last=4294967295\ndo=shift by=0 now=4294967295\n")
+    ≡ Run (Lend 3 4 9 1 4294967295 4294967295) ∷ Run (Shift 0 4294967295) ∷ []
 unfolding linesFrom parseLine orElse meaning readBy andThen numberAt decimal
 largest-value = refl
 

@@ -11,7 +11,7 @@ use lib.Dec.{eqb}
 use Rattle.model.specs.declared.Command.{Command}
 use Rattle.model.specs.declared.Command.the-variants.{Create, Allow, Withdraw, Lend}
 use Rattle.bits.specs.Sets.{any, all, keep, add}
-use Rattle.model.specs.Journal.{Loan, Journal, grant, loan, sameGrant, sameLoan, standing, LoanStands, fresh, step, run}
+use Rattle.model.specs.Journal.{Loan, Journal, grant, loan, sameGrant, sameLoan, carries, standing, LoanCarries, fresh, step, run}
 use Rattle.model.specs.Chain.{granted, lent, JournalChain}
 use Rattle.bits.proofs.Sets.{fst, snd, find}
 use Rattle.lines.specs.declared.Parsed.{Parsed}
@@ -28,14 +28,14 @@ use Rattle.transcript.proofs.Listing.{listing-input, listing-asks}
 
 -- ---- the journal before each of the two checks
 lent-journal : Journal
-lent-journal = run fresh (Create 0 3 ∷ Create 0 4 ∷ Create 0 9 ∷ Allow 0 3 9 1 1 ∷ Lend 3 4 9 1 0 ∷ [])
+lent-journal = run fresh (Create 0 3 ∷ Create 0 4 ∷ Create 0 9 ∷ Allow 0 3 9 1 1 ∷ Lend 3 4 9 1 0 0 ∷ [])
 
 withdrawn-journal : Journal
 withdrawn-journal = step lent-journal (Withdraw 0 3 9 1)
 
 -- the one grant of right 1, and the one loan
 one-grant : (p e : ℕ) → standing lent-journal (grant p 9 1 e) ≡ true → (p ≡ 3) × (e ≡ 1)
-unfolding lent-journal fresh any all keep add
+unfolding lent-journal fresh carries any all keep add
 one-grant p e h =
     let f = find (sameGrant (grant p 9 1 e)) (λ g. cond (eqb 1 (g .right)) (eqb (g .person) 3 && eqb (g .depth) 1) true)
     (lent-journal .grants) refl h in
@@ -47,8 +47,8 @@ one-grant p e h =
     let d : f .0 .depth ≡ 1 = search (fst, snd, eqb-true) in
     (a ∙ c, b ∙ d)
 
-one-loan : (l : Loan) → LoanStands lent-journal 9 1 l → (l .lender ≡ 3) × (l .borrower ≡ 4) × (l .depth ≡ 0)
-unfolding lent-journal fresh any all keep add
+one-loan : (l : Loan) → LoanCarries lent-journal 9 1 l → (l .lender ≡ 3) × (l .borrower ≡ 4) × (l .depth ≡ 0)
+unfolding lent-journal fresh carries any all keep add
 one-loan l s =
     let f = find (sameLoan l) (λ m. eqb (m .lender) 3 && eqb (m .borrower) 4 && eqb (m .depth) 0) (lent-journal .loans) refl (s .0) in
     let a : l .lender ≡ f .0 .lender = search (fst, snd, eqb-true) in
@@ -74,7 +74,7 @@ only (lent {ps} {a} l s c) =
 
 -- and after the withdrawal it has none
 no-chain : {ps : List ℕ} {p a : ℕ} → JournalChain withdrawn-journal 9 1 ps p a → ⊥
-unfolding withdrawn-journal lent-journal fresh any all keep add
+unfolding withdrawn-journal lent-journal fresh carries any all keep add
 no-chain (granted {p} {e} h) =
     let f = find (sameGrant (grant p 9 1 e)) (λ g. not (eqb 1 (g .right))) (withdrawn-journal .grants) refl h in
     let r : eqb 1 (f .0 .right) ≡ true = search (fst, snd) in
@@ -97,15 +97,15 @@ last-line last = refl
 -- the first check finds the one chain, the second none
 first-check : (n : ℕ) (t : List ℕ) → CheckLine lent-journal lent-journal n 4 9 1 t
     → t ≡ outputLine n (reply No No Yes (Chain 0 2)) (3 ∷ 4 ∷ [])
-unfolding lent-journal fresh any keep add
+unfolding lent-journal fresh carries any keep add
 first-check n t (refused h) = absurd (h refl)
-first-check n t (none e h) = absurd (h (3 ∷ 4 ∷ []) 0 (lent (loan 3 9 1 4 0) (refl, refl, refl) (granted {p = 3} {e = 1} refl)))
+first-check n t (none e h) = absurd (h (3 ∷ 4 ∷ []) 0 (lent (loan 3 9 1 4 0 0) (refl, refl, refl, refl) (granted {p = 3} {e = 1} refl)))
 first-check n t (found e g) =
     ⊎-elim (λ w. absurd (omega (arith, w .0)))
     (λ w. ap₂ (λ (d : ℕ) (ps : List ℕ). outputLine n (reply No No Yes (Chain d (length ps))) ps) (w .2) (w .1)) (only (g .chain))
 
 second-check : (n : ℕ) (t : List ℕ) → CheckLine withdrawn-journal withdrawn-journal n 4 9 1 t → t ≡ outputLine n (reply No No No Dashes) []
-unfolding withdrawn-journal lent-journal fresh any keep add
+unfolding withdrawn-journal lent-journal fresh carries any keep add
 second-check n t (refused h) = absurd (h refl)
 second-check n t (none e h) = refl
 second-check n t (found e g) = absurd (no-chain (g .chain))
@@ -124,7 +124,7 @@ pub listing-output :
     ≡ bytes "line=1 list=0 row=0 chain=0\nline=2 list=0 row=0 chain=0\nline=3 list=0 row=0 chain=0\nline=4 list=0 row=0 chain=0\n"
     ++ bytes "line=5 list=- row=- chain=0\nline=6 list=no row=no chain=yes depth=0 via=3,4\nline=7 list=0 row=0 chain=0\n"
     ++ bytes "line=8 list=no row=no chain=no depth=- via=-\nlines=8\n"
-unfolding lent-journal withdrawn-journal fresh any keep add outputLine saidText tailText persons morePersons newline lastOutput shown
+unfolding lent-journal withdrawn-journal fresh carries any keep add outputLine saidText tailText persons morePersons newline lastOutput shown
 listing-output =
     let h = subst (λ xs. Allowed step fresh fresh 0 xs (outputOf listing-input)) listing-asks (text-agreement listing-input) in
     let n1 = next-command h in

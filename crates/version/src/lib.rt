@@ -7,13 +7,13 @@ pub struct Version {}
 impl Version {
     pub const MAJOR: u32 = 1;
 
-    pub const MINOR: u32 = 1;
+    pub const MINOR: u32 = 2;
 
     pub const PATCH: u32 = 0;
 
     // As one number, two digits each for minor and patch.
     pub fn number() -> u32
-        ensures { λ r. ⌜ r ≡ 10100 ⌝ }
+        ensures { λ r. ⌜ r ≡ 10200 ⌝ }
     {
         10000 * Version::MAJOR + 100 * Version::MINOR + Version::PATCH
     }
@@ -27,11 +27,11 @@ impl Layout {
 
     pub const MONTH: u32 = 11;
 
-    pub const DAY: u32 = 15;
+    pub const DAY: u32 = 16;
 
     // As one number, two digits each for month and day.
     pub fn date() -> u32
-        ensures { λ r. ⌜ r ≡ 20261115 ⌝ }
+        ensures { λ r. ⌜ r ≡ 20261116 ⌝ }
     {
         10000 * Layout::YEAR + 100 * Layout::MONTH + Layout::DAY
     }

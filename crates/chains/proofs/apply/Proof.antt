@@ -56,6 +56,12 @@ loan-word-requires-2 c κs = search needs
 drop-loan-requires : tie.Need-drop-loan-requires
 drop-loan-requires c κs = search needs
 
+enum-told-7 : tie.Need-enum-told-7
+enum-told-7 c = search needs
+
+set-shift-requires : tie.Need-set-shift-requires
+set-shift-requires c κs = search needs
+
 same-length : tie.Need-same-length
 same-length c = search needs
 
@@ -122,6 +128,16 @@ returns-6 c =
     (c .before .before .drop-loan .ensures
     ∙ ap (λ w. loansKept (λ x. not (eqb w x)) (start .args .loans .now)) (c .before .before .before .loan-word2 .ensures)))
 
+same-length-8 : tie.Need-same-length-8
+same-length-8 c = search needs
+
+returns-7 : tie.Need-returns-7
+returns-7 c =
+    let start = c .before .before .before .before .before .before .before .before in
+    arm (images (start .args .grants .now) (start .args .loans .now)) _ (rawOf (start .args .t)) _
+    (c .before .before .before .before .enum-told7 .given .1)
+    (ap (images (start .args .grants .now)) (c .before .before .set-shift .ensures))
+
 pub apply-spec : {M : Type 1} → statement M
 apply-spec =
     tie.close
@@ -140,6 +156,8 @@ apply-spec =
     enum-told-6
     loan-word-requires-2
     drop-loan-requires
+    enum-told-7
+    set-shift-requires
     same-length
     returns
     same-length-2
@@ -152,4 +170,6 @@ apply-spec =
     same-length-6
     returns-5
     same-length-7
-    returns-6)
+    returns-6
+    same-length-8
+    returns-7)

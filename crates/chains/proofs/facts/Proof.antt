@@ -1,10 +1,10 @@
--- Three bits of the live set, the edit right of the one who commands, and whether the loans are full for the loan's word: field by
--- field what the table asks (`facts-are`).
+-- Three bits of the live set, the edit right of the one who commands, what the shift of the loans image says, and whether the loans are
+-- full for the loan's word: field by field what the table asks (`facts-are`). The shift of an image in order is within its limit.
 use borrow.Author.Needs.{needs}
 use Rattle.model.specs.Commands.{rawOf}
 use Rattle.layouts.specs.Layouts.{grantBytes}
 use Rattle.delegation.specs.Images.{images}
-use Rattle.chains.proofs.Judging.{facts-are}
+use Rattle.chains.proofs.Judging.{facts-are, counted}
 use Rattle.chains.proofs.facts.Statement.{statement}
 use Rattle.chains.proofs.facts.Tie as tie
 
@@ -26,17 +26,25 @@ is-live-requires-3 c κs = search needs
 holds-requires : tie.Need-holds-requires
 holds-requires c κs = search needs
 
+goes-back-requires : tie.Need-goes-back-requires
+goes-back-requires c κs = search needs
+
+is-past-requires : tie.Need-is-past-requires
+is-past-requires c κs = search needs
+
 is-full-requires : tie.Need-is-full-requires
 is-full-requires c κs = search needs
 
 returns : tie.Need-returns
 unfolding grantBytes
 returns c =
-    let start = c .before .before .before .before .before .before .before .before .before .before .before .before in
-    facts-are (images (start .args .grants .now) (start .args .loans .now)) (rawOf (start .args .t)) _ _ _ _ _ _ _
-    (c .before .before .before .before .before .before .edit .ensures) (c .before .before .before .before .before .loan-word .ensures)
-    (c .before .before .before .before .is-live .ensures) (c .before .before .before .is-live2 .ensures)
-    (c .before .before .is-live3 .ensures) (c .before .holds .ensures) (c .is-full .ensures)
+    let h = c .before .before in
+    let l = h .before .before .before in
+    let start = l .before .before .before .before .before .before .before .before .before in
+    facts-are (images (start .args .grants .now) (start .args .loans .now)) (rawOf (start .args .t)) _ _ _ _ _ _ _ _ _
+    (l .before .before .before .edit .ensures) (l .before .before .loan-word .ensures)
+    (l .before .is-live .ensures) (l .is-live2 .ensures) (h .before .before .is-live3 .ensures) (h .before .holds .ensures)
+    (h .goes-back .ensures) (c .before .is-past .ensures) (counted _ (start .pre .ordered) .0) (c .is-full .ensures)
 
 pub facts-spec : {M : Type 1} → statement M
 facts-spec =
@@ -48,5 +56,7 @@ facts-spec =
     is-live-requires-2
     is-live-requires-3
     holds-requires
+    goes-back-requires
+    is-past-requires
     is-full-requires
     returns)

@@ -9,7 +9,8 @@ word-requires c κs = search needs
 
 returns : tie.Need-returns
 returns c =
-    let start = c .before .before .before .before .before .before in loan-word-is (rawOf (start .args .t)) _ (start .pre) (c .word .ensures)
+    let start = c .before .before .before .before .before .before .before in
+    loan-word-is (rawOf (start .args .t)) _ (start .pre) (c .word .ensures)
 
 pub loan-word-spec : {M : Type 1} → statement M
 loan-word-spec = tie.close (tie.spec word-requires returns)

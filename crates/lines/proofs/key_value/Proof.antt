@@ -42,6 +42,18 @@ slice-aggregate-field-6 c = search needs
 field-requires-6 : tie.Need-field-requires-6
 field-requires-6 c κs = search needs
 
+slice-aggregate-field-7 : tie.Need-slice-aggregate-field-7
+slice-aggregate-field-7 c = search needs
+
+field-requires-7 : tie.Need-field-requires-7
+field-requires-7 c κs = search needs
+
+slice-aggregate-field-8 : tie.Need-slice-aggregate-field-8
+slice-aggregate-field-8 c = search needs
+
+field-requires-8 : tie.Need-field-requires-8
+field-requires-8 c κs = search needs
+
 returns : tie.Need-returns
 unfolding keyAt
 returns c = c .field .ensures ∙ rw (c .before .before .match .keys1) refl
@@ -64,15 +76,25 @@ returns-5 c = c .field5 .ensures ∙ rw (c .before .before .match .keys5) refl
 
 returns-6 : tie.Need-returns-6
 unfolding keyAt
-returns-6 c =
+returns-6 c = c .field6 .ensures ∙ rw (c .before .before .match .keys6) refl
+
+returns-7 : tie.Need-returns-7
+unfolding keyAt
+returns-7 c = c .field7 .ensures ∙ rw (c .before .before .match .keys7) refl
+
+returns-8 : tie.Need-returns-8
+unfolding keyAt
+returns-8 c =
     let m = c .before .before .match .rest in
-    c .field6 .ensures
+    c .field8 .ensures
     ∙ rw (
-      ne-eqb _ 98 (m .0 .0 .0 .0 .1),
-      ne-eqb _ 119 (m .0 .0 .0 .1),
-      ne-eqb _ 116 (m .0 .0 .1),
-      ne-eqb _ 111 (m .0 .1),
-      ne-eqb _ 114 (m .1),
+      ne-eqb _ 98 (m .0 .0 .0 .0 .0 .0 .1),
+      ne-eqb _ 119 (m .0 .0 .0 .0 .0 .1),
+      ne-eqb _ 116 (m .0 .0 .0 .0 .1),
+      ne-eqb _ 111 (m .0 .0 .0 .1),
+      ne-eqb _ 114 (m .0 .0 .1),
+      ne-eqb _ 108 (m .0 .1),
+      ne-eqb _ 110 (m .1),
     ) refl
 
 pub key-value-spec : {M : Type 1} → statement M
@@ -91,9 +113,15 @@ key-value-spec =
     field-requires-5
     slice-aggregate-field-6
     field-requires-6
+    slice-aggregate-field-7
+    field-requires-7
+    slice-aggregate-field-8
+    field-requires-8
     returns
     returns-2
     returns-3
     returns-4
     returns-5
-    returns-6)
+    returns-6
+    returns-7
+    returns-8)

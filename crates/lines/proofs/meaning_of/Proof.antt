@@ -21,6 +21,9 @@ element-copy-out-d c = search needs
 element-copy-out-e : tie.Need-element-copy-out-e
 element-copy-out-e c = search needs
 
+element-copy-out-f : tie.Need-element-copy-out-f
+element-copy-out-f c = search needs
+
 allow-requires : tie.Need-allow-requires
 allow-requires c κs = search needs
 
@@ -62,11 +65,15 @@ returns-6 c = c .recall .ensures ∙ rw (c .before .match .keys6) refl
 
 returns-7 : tie.Need-returns-7
 unfolding meaning
-returns-7 c = c .ask .ensures ∙ rw (c .before .match .keys7) refl
+returns-7 c = rw (c .match .keys7) refl
 
 returns-8 : tie.Need-returns-8
 unfolding meaning
-returns-8 c = rw (past _ (c .match .rest)) refl
+returns-8 c = c .ask .ensures ∙ rw (c .before .match .keys8) refl
+
+returns-9 : tie.Need-returns-9
+unfolding meaning
+returns-9 c = rw (past _ (c .match .rest)) refl
 
 pub meaning-of-spec : {M : Type 1} → statement M
 meaning-of-spec =
@@ -77,6 +84,7 @@ meaning-of-spec =
     element-copy-out-c
     element-copy-out-d
     element-copy-out-e
+    element-copy-out-f
     allow-requires
     withdraw-requires
     lend-requires
@@ -89,4 +97,5 @@ meaning-of-spec =
     returns-5
     returns-6
     returns-7
-    returns-8)
+    returns-8
+    returns-9)

@@ -67,6 +67,15 @@ slice-aggregate-fill-14 c = search needs
 fill-requires-7 : tie.Need-fill-requires-7
 fill-requires-7 c κs = search needs
 
+slice-aggregate-fill-15 : tie.Need-slice-aggregate-fill-15
+slice-aggregate-fill-15 c = search needs
+
+slice-aggregate-fill-16 : tie.Need-slice-aggregate-fill-16
+slice-aggregate-fill-16 c = search needs
+
+fill-requires-8 : tie.Need-fill-requires-8
+fill-requires-8 c κs = search needs
+
 returns : tie.Need-returns
 returns c = rw (c .before .before .before .before .match .keys1) (c .fill .ensures)
 
@@ -89,7 +98,10 @@ returns-7 : tie.Need-returns-7
 returns-7 c = rw (c .before .before .before .before .match .keys7) (c .fill7 .ensures)
 
 returns-8 : tie.Need-returns-8
-returns-8 c = past-not _ _ _ (c .match .rest) (c .before .before .pre .1)
+returns-8 c = rw (c .before .before .before .before .match .keys8) (c .fill8 .ensures)
+
+returns-9 : tie.Need-returns-9
+returns-9 c = past-not _ _ _ (c .match .rest) (c .before .before .pre .1)
 
 pub read-by-spec : {M : Type 1} → statement M
 read-by-spec =
@@ -116,6 +128,9 @@ read-by-spec =
     slice-aggregate-fill-13
     slice-aggregate-fill-14
     fill-requires-7
+    slice-aggregate-fill-15
+    slice-aggregate-fill-16
+    fill-requires-8
     returns
     returns-2
     returns-3
@@ -123,4 +138,5 @@ read-by-spec =
     returns-5
     returns-6
     returns-7
-    returns-8)
+    returns-8
+    returns-9)

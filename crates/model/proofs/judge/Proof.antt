@@ -1,4 +1,4 @@
--- Each `row` puts its number over the answer of the rows below, so the seven together have the number of the table; an answer is
+-- Each `row` puts its number over the answer of the rows below, so the nine together have the number of the table; an answer is
 -- known by its number (`answer-is`).
 use borrow.Author.Needs.{needs}
 use mathlib.Core.Path.{_∙_}
@@ -42,8 +42,20 @@ knows-requires-6 c κs = search needs
 row-requires-6 : tie.Need-row-requires-6
 row-requires-6 c κs = search needs
 
+knows-requires-7 : tie.Need-knows-requires-7
+knows-requires-7 c κs = search needs
+
 row-requires-7 : tie.Need-row-requires-7
 row-requires-7 c κs = search needs
+
+knows-requires-8 : tie.Need-knows-requires-8
+knows-requires-8 c κs = search needs
+
+row-requires-8 : tie.Need-row-requires-8
+row-requires-8 c κs = search needs
+
+row-requires-9 : tie.Need-row-requires-9
+row-requires-9 c κs = search needs
 
 returns : tie.Need-returns
 returns c =
@@ -51,10 +63,12 @@ returns c =
     let r6 = r5 .before .before .before in
     let r7 = r6 .before .before .before in
     let r8 = r7 .before .before .before in
-    let r9 = r8 .before .before .before in
-    let r10 = r9 .before .before .before in
-    answer-is (c .row7 .result) _
-    (c .row7 .ensures ∙ rw (r5 .row6 .ensures, r5 .before .before .knows6 .ensures, r6 .row5 .ensures, r6 .before .before .knows5 .ensures, r7 .row4 .ensures, r7 .before .before .knows4 .ensures, r8 .row3 .ensures, r8 .before .before .knows3 .ensures, r9 .row2 .ensures, r9 .before .before .knows2 .ensures, r10 .row .ensures, r10 .before .before .knows .ensures))
+    let r12 = r8 .before .before .before in
+    let r9 = r12 .before .before .before in
+    let r13 = r9 .before .before .before in
+    let r10 = r13 .before .before .before in
+    answer-is (c .row9 .result) _
+    (c .row9 .ensures ∙ rw (r5 .row8 .ensures, r5 .before .before .knows8 .ensures, r6 .row7 .ensures, r6 .before .before .knows7 .ensures, r7 .row6 .ensures, r7 .before .before .knows6 .ensures, r8 .row5 .ensures, r8 .before .before .knows5 .ensures, r12 .row4 .ensures, r12 .before .before .knows4 .ensures, r9 .row3 .ensures, r9 .before .before .knows3 .ensures, r13 .row2 .ensures, r13 .before .before .knows2 .ensures, r10 .row .ensures, r10 .before .before .knows .ensures))
 
 pub judge-spec : {M : Type 1} → statement M
 judge-spec =
@@ -72,5 +86,9 @@ judge-spec =
     row-requires-5
     knows-requires-6
     row-requires-6
+    knows-requires-7
     row-requires-7
+    knows-requires-8
+    row-requires-8
+    row-requires-9
     returns)

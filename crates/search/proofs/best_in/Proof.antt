@@ -14,24 +14,29 @@ use Rattle.search.proofs.best_in.Tie as tie
 -- what is known before the answer
 module _ (b : tie.After-best-of) where
   abbrev start : tie.Start
-  start = b .before .before .before .before .before .before .before .before .before .before .before .before .before .before .before
+  start = b .before .before .before .before .before .before .before .before .before .before .before .before .before .before .before .before
 
   known : let p = b .before .before .before .before .before .before .before .pick in
       let e = b .best-of .result in
       Searched (start .args .grants .now) (start .args .loans .now) (start .args .key) (start .args .who .0) (take (p .result) (p .last .0))
       (b .before .before .rounds-of .result) (e .value) (e .at)
   known =
-      let n = b .before .before .before .before .before .before .before .before .before .before .in-use in
+      let n = b .before .before .before .before .before .before .before .before .before .before .before .in-use in
+      let p = b .before .before .before .before .before .before .before .before .before .before .present in
       let l = b .before .before .before .before .before .before .before .pick in
       let f = b .before .before .before .grant-round in
       let r = b .before .before .rounds-of in
       let e = b .best-of in
-      searched (start .args .grants .now) (start .args .loans .now) (start .args .key) (start .args .who .0) (n .result) (f .result)
-      (take (l .result) (l .last .0)) (r .result) (e .result .value) (e .result .at) (n .ensures) (start .pre .5)
+      searched (start .args .grants .now) (start .args .loans .now) (start .args .key) (start .args .who .0) (n .result)
+      (p .result .0) (f .result) (take (l .result) (l .last .0)) (r .result) (e .result .value) (e .result .at) (n .ensures)
+      (omega (arith, p .ensures, start .pre .3)) (start .pre .6)
       (l .ensures .1) (f .ensures) (r .ensures) (e .ensures .0) (e .ensures .1)
 
 in-use-requires : tie.Need-in-use-requires
 in-use-requires c κs = search needs
+
+present-requires : tie.Need-present-requires
+present-requires c κs = search needs
 
 add-end : tie.Need-add-end
 add-end c = search needs
@@ -100,6 +105,7 @@ best-in-spec =
     (tie.spec
     in-use-requires
     add-end
+    present-requires
     sub-pick
     part-pick-start
     part-pick-end

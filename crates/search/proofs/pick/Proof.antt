@@ -1,9 +1,8 @@
 -- What is picked of the first i loans stands at the front (`Picked`), at first nothing; whole blocks are picked until fewer than 16
 -- loans are left, and the part after them makes it all.
-use lib.Dec.{eqb}
 use lib.Seq.{take-all}
 use Rattle.bits.specs.Sets.{keep}
-use Rattle.delegation.specs.Loans.{keyOf}
+use Rattle.delegation.specs.Search.{picks}
 use Rattle.search.specs.Picked.{Picked}
 use borrow.Author.Needs.{needs}
 use native.Mathlib.Omega.{arith}
@@ -15,10 +14,11 @@ use Rattle.search.proofs.pick.Tie as tie
 
 -- what is picked of the first i loans stands at the front
 abbrev Inv-loop : tie.InvT-loop
-Inv-loop out₀ loans key end m₀ i₀ out m i = (i ≤ length loans) × (length out ≡ length out₀) × Picked loans key i m out
+Inv-loop out₀ loans key shift end m₀ i₀ out m i =
+    (i ≤ length loans) × (length out ≡ length out₀) × Picked loans (shift .0) key i m out
 
 abbrev μ-loop : tie.MeasureT-loop
-μ-loop out₀ loans key end m₀ i₀ out m i = length loans - i
+μ-loop out₀ loans key shift end m₀ i₀ out m i = length loans - i
 
 loop-holds : tie.Need-loop-holds Inv-loop μ-loop
 unfolding keep
@@ -49,7 +49,7 @@ returns : tie.Need-returns Inv-loop μ-loop
 returns c =
     let a = c .before .before .before .before .before .before .before .before .args in
     let p = c .before .before .pick-part .ensures in
-    (p .count, p .are ∙ ap (keep (λ w. eqb (keyOf w) (a .key))) (take-all (length (a .loans .now)) (a .loans .now) (omega arith)))
+    (p .count, p .are ∙ ap (keep (picks (a .shift .0) (a .key))) (take-all (length (a .loans .now)) (a .loans .now) (omega arith)))
 
 pub pick-spec : {M : Type 1} → statement M
 pick-spec =

@@ -1,8 +1,7 @@
 -- What is picked of the first i loans stands at the front (`Picked`): each loan is written there, and the place moves on where it
 -- counts (`pick-more`). The loop ends with i at `to`.
-use lib.Dec.{eqb}
 use mathlib.Core.Path.{subst, _≡_, refl}
-use Rattle.delegation.specs.Loans.{keyOf}
+use Rattle.delegation.specs.Search.{picks}
 use Rattle.search.specs.Picked.{Picked}
 use Rattle.search.proofs.Picking.{pick-more}
 use borrow.Author.Needs.{needs}
@@ -14,10 +13,11 @@ use Rattle.search.proofs.pick_part.Tie as tie
 
 -- what is picked of the first i loans stands at the front
 abbrev Inv-loop : tie.InvT-loop
-Inv-loop out₀ loans m from to key m₀ i₀ out m' i = (i ≤ to) × (length out ≡ length out₀) × Picked loans key i m' out
+Inv-loop out₀ loans m from to key shift m₀ i₀ out m' i =
+    (i ≤ to) × (length out ≡ length out₀) × Picked loans (shift .0) key i m' out
 
 abbrev μ-loop : tie.MeasureT-loop
-μ-loop out₀ loans m from to key m₀ i₀ out m' i = to - i
+μ-loop out₀ loans m from to key shift m₀ i₀ out m' i = to - i
 
 loop-holds : tie.Need-loop-holds Inv-loop μ-loop
 loop-holds c = (search needs, refl, c .before .before .pre .3)
@@ -34,8 +34,8 @@ mul-out c = search needs
 slice-write-out : tie.Need-slice-write-out Inv-loop μ-loop
 slice-write-out c = search needs
 
-counted-requires : tie.Need-counted-requires Inv-loop μ-loop
-counted-requires c κs = search needs
+taken-requires : tie.Need-taken-requires Inv-loop μ-loop
+taken-requires c κs = search needs
 
 cast-m : tie.Need-cast-m Inv-loop μ-loop
 cast-m c = search needs
@@ -60,8 +60,8 @@ loop-again c =
         within = search needs;
         count = search needs;
         are =
-            pick-more (λ w. eqb (keyOf w) (a .key)) (a .loans .now) (l .i) (omega arith) (l .out) (l .m) (omega arith) (p .are)
-            (c .counted .result) (c .counted .ensures .1);
+            pick-more (picks (a .shift .0) (a .key)) (a .loans .now) (l .i) (omega arith) (l .out) (l .m) (omega arith) (p .are)
+            (c .taken .result) (c .taken .ensures .1);
       },
     )
 
@@ -73,7 +73,7 @@ returns c =
     let a = c .before .before .before .before .args in
     let l = c .before .loop in
     let e : l .i ≡ a .to = omega arith in
-    subst (λ (n : ℕ). Picked (a .loans .now) (a .key) n (l .m) (l .out)) e (l .inv .2)
+    subst (λ (n : ℕ). Picked (a .loans .now) (a .shift .0) (a .key) n (l .m) (l .out)) e (l .inv .2)
 
 pub pick-part-spec : {M : Type 1} → statement M
 pick-part-spec =
@@ -86,7 +86,7 @@ pick-part-spec =
     shared-slice-read-w
     mul-out
     slice-write-out
-    counted-requires
+    taken-requires
     cast-m
     add-m
     add-i

@@ -1,5 +1,4 @@
 use borrow.Author.Needs.{needs}
-use Prim.Native.Nat.{_-_}
 use Rattle.delegation.specs.Loans.{wordOf}
 use Rattle.delegation.proofs.loan.word.Statement.{statement}
 use Rattle.delegation.proofs.loan.word.Tie as tie
@@ -22,31 +21,40 @@ add-of c = search needs
 number-requires-3 : tie.Need-number-requires-3
 number-requires-3 c κs = search needs
 
+mul-of-3 : tie.Need-mul-of-3
+mul-of-3 c = search needs
+
+add-of-2 : tie.Need-add-of-2
+add-of-2 c = search needs
+
+number-requires-4 : tie.Need-number-requires-4
+number-requires-4 c κs = search needs
+
+mul-of-4 : tie.Need-mul-of-4
+mul-of-4 c = search needs
+
+add-of-3 : tie.Need-add-of-3
+add-of-3 c = search needs
+
+number-requires-5 : tie.Need-number-requires-5
+number-requires-5 c κs = search needs
+
 mul-result : tie.Need-mul-result
 mul-result c = search needs
 
 add-result : tie.Need-add-result
 add-result c = search needs
 
-number-requires-4 : tie.Need-number-requires-4
-number-requires-4 c κs = search needs
-
-mul-result-2 : tie.Need-mul-result-2
-mul-result-2 c = search needs
+number-requires-6 : tie.Need-number-requires-6
+number-requires-6 c κs = search needs
 
 add-result-2 : tie.Need-add-result-2
 add-result-2 c = search needs
 
-number-requires-5 : tie.Need-number-requires-5
-number-requires-5 c κs = search needs
-
-add-result-3 : tie.Need-add-result-3
-add-result-3 c = search needs
-
 returns : tie.Need-returns
 unfolding wordOf
 returns c =
-    rw (c .number5 .ensures, c .before .number4 .ensures, c .before .before .number3 .ensures, c .before .before .before .number2 .ensures, c .before .before .before .before .number .ensures)
+    rw (c .number6 .ensures, c .before .number5 .ensures, c .before .before .number4 .ensures, c .before .before .before .number3 .ensures, c .before .before .before .before .number2 .ensures, c .before .before .before .before .before .number .ensures)
 
 pub word-spec : {M : Type 1} → statement M
 word-spec =
@@ -58,11 +66,14 @@ word-spec =
     mul-of-2
     add-of
     number-requires-3
+    mul-of-3
+    add-of-2
+    number-requires-4
+    mul-of-4
+    add-of-3
+    number-requires-5
     mul-result
     add-result
-    number-requires-4
-    mul-result-2
+    number-requires-6
     add-result-2
-    number-requires-5
-    add-result-3
     returns)

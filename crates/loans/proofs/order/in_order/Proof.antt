@@ -1,23 +1,28 @@
--- With the right length and count, order is four tests of the words: those in use rise, have a loan's shape and name living items,
--- and the later ones are 0 (`order-parts`). Each test that fails ends it with no, and the last decides.
+-- With the right length, and shift and count within their limits (`limits`), order is four tests of the words: those in use rise, have a
+-- loan's shape and name living items, and the later ones are 0 (`order-parts`). Each test that fails ends it with no, and the last decides.
 use borrow.Author.Needs.{needs}
-use native.Mathlib.Omega.{arith}
 use mathlib.Core.Path.{_≡_, sym, ap, _∙_}
 use Prim.Native.Nat.{_+_, _-_}
 use lib.ListN.{length, take, drop}
 use mathlib.Core.Bool.{_&&_}
-use lib.Dec.{eqb}
-use borrow.Author.Tests.{eq-eqb, ne-eqb, lt-leb, not-true, not-false}
+use lib.Dec.{eqb, leb}
+use borrow.Author.Tests.{eq-eqb, ne-eqb, not-true, not-false}
 use Rattle.bits.specs.Sets.{all}
-use Rattle.model.specs.Commands.{mostLoans}
-use Rattle.delegation.specs.Loans.{loanWords, countOf, rising, loansInOrder}
+use Rattle.model.specs.Commands.{shifts, mostLoans}
+use Rattle.delegation.specs.Loans.{loanWords, countOf, shiftIn, rising, loansInOrder}
 use Rattle.delegation.specs.declared.loan.Header.{Header}
 use Rattle.loans.specs.Words.{unmasked, shaped, namesLive}
 use Rattle.loans.proofs.Parts.{order-parts}
 use Rattle.loans.proofs.order.in_order.Statement.{statement}
 use Rattle.loans.proofs.order.in_order.Tie as tie
 
--- what the answer is, once the length and the count are seen to be right
+-- the test of the limits, said of the image
+limits : (c : tie.After-in-limits)
+    → let t = c .before .before .before .before .args .loans .now in c .in-limits .result ≡ shifts (shiftIn t) && leb (countOf t) mostLoans
+limits c =
+    c .in-limits .ensures ∙ ap (λ (h : Header). shifts (h .shift) && leb (h .count) mostLoans) (c .before .header-of .ensures)
+
+-- what the answer is, once the length and the limits are seen to be right
 parts : (c : tie.After-in-use)
     → let t = c .before .before .before .before .before .before .args .loans .now in
     let live = unmasked (c .before .before .before .before .before .before .args .masks .now) in
@@ -28,7 +33,7 @@ parts : (c : tie.After-in-use)
 parts c =
     let a = c .before .before .before .before .before .before .args in
     order-parts (unmasked (a .masks .now)) (a .loans .now) (c .in-use .result) (c .before .before .before .before .if1 .left)
-    (omega (arith, ap (λ (h : Header). h .count) (c .before .before .before .header-of .ensures))) (c .in-use .ensures)
+    (sym (limits (c .before .before)) ∙ not-false _ (c .before .if2 .left)) (c .in-use .ensures)
 
 returns : tie.Need-returns
 returns c = rw (ne-eqb _ _ (c .if1 .taken))
@@ -36,14 +41,17 @@ returns c = rw (ne-eqb _ _ (c .if1 .taken))
 header-of-requires : tie.Need-header-of-requires
 header-of-requires c κs = search needs
 
+in-limits-requires : tie.Need-in-limits-requires
+in-limits-requires c κs = search needs
+
 returns-2 : tie.Need-returns-2
 unfolding loansInOrder
 returns-2 c =
     let t = c .before .before .before .before .before .args .loans .now in
     rw (
       eq-eqb (length t) loanWords (c .before .before .before .if1 .left),
-      lt-leb (countOf t) mostLoans
-          (omega (arith, ap (λ (h : Header). h .count) (c .before .before .header-of .ensures))),
+      sym (limits (c .before))
+          ∙ not-true _ (c .if2 .taken),
     )
 
 in-use-requires : tie.Need-in-use-requires
@@ -155,6 +163,7 @@ in-order-spec =
     (tie.spec
     returns
     header-of-requires
+    in-limits-requires
     returns-2
     in-use-requires
     add-rises

@@ -41,6 +41,12 @@ enum-known-self-6 c = search needs
 of-requires-6 : tie.Need-of-requires-6
 of-requires-6 c κs = search needs
 
+enum-known-self-7 : tie.Need-enum-known-self-7
+enum-known-self-7 c = search needs
+
+of-requires-7 : tie.Need-of-requires-7
+of-requires-7 c κs = search needs
+
 returns : tie.Need-returns
 returns c = c .of .ensures ∙ sym (ap argumentsOf (c .before .before .self .given .1))
 
@@ -59,6 +65,9 @@ returns-5 c = c .of5 .ensures ∙ sym (ap argumentsOf (c .before .before .self5 
 returns-6 : tie.Need-returns-6
 returns-6 c = c .of6 .ensures ∙ sym (ap argumentsOf (c .before .before .self6 .given .1))
 
+returns-7 : tie.Need-returns-7
+returns-7 c = c .of7 .ensures ∙ sym (ap argumentsOf (c .before .before .self7 .given .1))
+
 pub arguments-spec : {M : Type 1} → statement M
 arguments-spec =
     tie.close
@@ -75,9 +84,12 @@ arguments-spec =
     of-requires-5
     enum-known-self-6
     of-requires-6
+    enum-known-self-7
+    of-requires-7
     returns
     returns-2
     returns-3
     returns-4
     returns-5
-    returns-6)
+    returns-6
+    returns-7)
