@@ -1,20 +1,21 @@
 use core::mem::MaybeUninit;
 
 use crate::{
-    answer, lent, Depth, Item, Refusal, Right, CHAIN_PERSONS, GRANTS_BYTES, LOANS_WORDS, NO_PERSON,
+    answer, lent, Depth, Item, Refusal, Right, Shift, CHAIN_PERSONS, GRANTS_BYTES, LOANS_WORDS,
+    NO_PERSON,
 };
 
-/// The chain unit: grants and loans with depths, and the check that follows loans.
+/// The chain unit: grants and loans with depths, and the check that follows the loans that carry.
 ///
 /// ```
-/// use rights::{Chains, Depth, Item, Refusal, Right};
+/// use rights::{Chains, Depth, Item, Refusal, Right, Shift};
 ///
 /// let mut unit = Chains::fresh();
 /// for item in [3, 4, 9] {
 ///     unit.create(Item(0), Item(item))?;
 /// }
 /// unit.allow(Item(0), Item(3), Item(9), Right(1), Depth(1))?;
-/// unit.lend(Item(3), Item(4), Item(9), Right(1), Depth(0))?;
+/// unit.lend(Item(3), Item(4), Item(9), Right(1), Depth(0), Shift(0))?;
 /// let answer = unit.check(Item(4), Item(9), Right(1))?;
 /// assert!(answer.yes());
 /// assert_eq!((answer.depth(), answer.persons()), (Depth(0), &[Item(3), Item(4)][..]));
@@ -56,7 +57,8 @@ pub struct Chains {
 
 /// Making a unit.
 impl Chains {
-    /// A fresh unit: item 0 lives and may edit itself; no loan stands. It can begin a static.
+    /// A fresh unit: item 0 lives and may edit itself; the shift is 0 and no loan stands. It can
+    /// begin a static.
     #[must_use]
     pub const fn fresh() -> Self {
         let mut unit = Self { grants: [0; GRANTS_BYTES], loans: [0; LOANS_WORDS] };
@@ -235,6 +237,8 @@ impl Chains {
     }
 
     /// Lends the right on the item from `by` to `to` at the depth, also where `by` holds none yet.
+    /// The loan carries up to and in its `last` shift; with `Shift(0)` it is open-ended. The same
+    /// loan with another `last` is another loan.
     pub fn lend(
         &mut self,
         by: Item,
@@ -242,12 +246,13 @@ impl Chains {
         on: Item,
         right: Right,
         depth: Depth,
+        last: Shift,
     ) -> Result<(), Refusal> {
         let (grants, loans) = (&mut self.grants, &mut self.loans);
-        answer(lent::chains::lend(grants, loans, by.0, to.0, on.0, right.0, depth.0))
+        answer(lent::chains::lend(grants, loans, by.0, to.0, on.0, right.0, depth.0, last.0))
     }
 
-    /// Ends just that loan of `by`, if it stands.
+    /// Ends just that loan of `by`, if it stands, past its `last` shift or not.
     pub fn recall(
         &mut self,
         by: Item,
@@ -255,12 +260,39 @@ impl Chains {
         on: Item,
         right: Right,
         depth: Depth,
+        last: Shift,
     ) -> Result<(), Refusal> {
         let (grants, loans) = (&mut self.grants, &mut self.loans);
-        answer(lent::chains::recall(grants, loans, by.0, to.0, on.0, right.0, depth.0))
+        answer(lent::chains::recall(grants, loans, by.0, to.0, on.0, right.0, depth.0, last.0))
     }
 
-    /// Whether a chain gives `who` the right on the item, with the greatest depth of any.
+    /// Sets the present shift, where `by` may edit item 0. A loan that is past its last shift
+    /// stands and counts until it is recalled, but no chain uses it. The shift may start again
+    /// lower once no loan with a last shift stands.
+    ///
+    /// ```
+    /// use rights::{Chains, Depth, Item, Refusal, Right, Shift};
+    ///
+    /// let mut unit = Chains::fresh();
+    /// unit.create(Item(0), Item(4))?;
+    /// unit.allow(Item(0), Item(0), Item(0), Right(1), Depth(1))?;
+    /// unit.shift(Item(0), Shift(6))?;
+    /// unit.lend(Item(0), Item(4), Item(0), Right(1), Depth(0), Shift(6))?;
+    /// assert!(unit.check(Item(4), Item(0), Right(1))?.yes());
+    ///
+    /// unit.shift(Item(0), Shift(7))?;
+    /// assert!(!unit.check(Item(4), Item(0), Right(1))?.yes());
+    /// assert_eq!(unit.shift(Item(0), Shift(1)), Err(Refusal::ShiftBack));
+    /// unit.recall(Item(0), Item(4), Item(0), Right(1), Depth(0), Shift(6))?;
+    /// assert_eq!(unit.shift(Item(0), Shift(1)), Ok(()));
+    /// # Ok::<(), Refusal>(())
+    /// ```
+    pub fn shift(&mut self, by: Item, now: Shift) -> Result<(), Refusal> {
+        answer(lent::chains::shift(&mut self.grants, &mut self.loans, by.0, now.0))
+    }
+
+    /// Whether a chain of grants and carrying loans gives `who` the right on the item, with the
+    /// greatest depth of any.
     pub fn check(&self, who: Item, on: Item, right: Right) -> Result<CheckAnswer, Refusal> {
         let mut chain = [NO_PERSON as u8; CHAIN_PERSONS];
         let (grants, loans) = (&self.grants, &self.loans);

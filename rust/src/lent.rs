@@ -187,10 +187,13 @@ pub mod convert {
 /// let (mut grants, mut loans) = (vec![0; rights::GRANTS_BYTES], vec![0; rights::LOANS_WORDS]);
 /// assert_eq!(chains::fresh(&mut grants, &mut loans), 0);
 /// assert_eq!(chains::create(&mut grants, &mut loans, 0, 9), 0);
-/// assert_eq!(chains::lend(&mut grants, &mut loans, 0, 9, 9, 1, 0), 0);
+/// assert_eq!(chains::lend(&mut grants, &mut loans, 0, 9, 9, 1, 0, 2), 0);
 /// assert_eq!(loans[0], 1);
-/// assert_eq!(chains::recall(&mut grants, &mut loans, 0, 9, 9, 1, 0), 0);
-/// assert_eq!(loans[0], 0);
+/// assert_eq!(chains::shift(&mut grants, &mut loans, 0, 3), 0);
+/// assert_eq!(loans[0], (3 << 16) + 1);
+/// assert_eq!(chains::shift(&mut grants, &mut loans, 0, 2), rights::SHIFT_BACK);
+/// assert_eq!(chains::recall(&mut grants, &mut loans, 0, 9, 9, 1, 0, 2), 0);
+/// assert_eq!(loans[0], 3 << 16);
 /// loans[0] = 1;
 /// assert_eq!(chains::inspect(&grants, &loans), rights::NOT_IN_ORDER);
 /// ```
@@ -225,6 +228,8 @@ pub mod chains {
         ($(#[$doc:meta])* $name:ident, $call:ident, $($argument:ident),*) => {
             $(#[$doc])*
             #[must_use]
+            // As many as the command has.
+            #[allow(clippy::too_many_arguments)]
             pub fn $name(grants: &mut [u8], loans: &mut [u32] $(, $argument: u32)*) -> u32 {
                 unsafe {
                     ffi::$call(
@@ -260,12 +265,16 @@ pub mod chains {
         withdraw, rights_chains_withdraw, by, to, on, right
     );
     lend_command!(
-        /// lend (by, to, on, right, depth).
-        lend, rights_chains_lend, by, to, on, right, depth
+        /// lend (by, to, on, right, depth, last); `last` 0 is a loan that is open-ended.
+        lend, rights_chains_lend, by, to, on, right, depth, last
     );
     lend_command!(
-        /// recall (by, to, on, right, depth).
-        recall, rights_chains_recall, by, to, on, right, depth
+        /// recall (by, to, on, right, depth, last).
+        recall, rights_chains_recall, by, to, on, right, depth, last
+    );
+    lend_command!(
+        /// shift (by, now); `now` becomes the present shift.
+        shift, rights_chains_shift, by, now
     );
 
     /// check (who, on, right), with a buffer of [`CHAIN_PERSONS`](crate::CHAIN_PERSONS) bytes for

@@ -36,7 +36,7 @@ mod refusal;
 pub use chains::{Chains, CheckAnswer};
 pub use engine::{archive_matches_header, layout_date, version};
 pub use flat::{Lists, Rows};
-pub use numbers::{Depth, Item, Right};
+pub use numbers::{Depth, Item, Right, Shift};
 pub use refusal::{answer, NotARefusal, Refusal};
 
 include!(concat!(env!("OUT_DIR"), "/constants.rs"));

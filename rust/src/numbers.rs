@@ -38,3 +38,16 @@ pub struct Right(pub u32);
 /// ```
 #[derive(Clone, Copy, Debug, PartialEq, Eq, PartialOrd, Ord, Hash)]
 pub struct Depth(pub u32);
+
+/// A shift: of a unit the present one, of a loan its last, where 0 is a loan that is open-ended.
+/// The engine refuses one above [`SHIFT_MAX`](crate::SHIFT_MAX).
+///
+/// ```
+/// use rights::{Chains, Item, Refusal, Shift};
+///
+/// let mut unit = Chains::fresh();
+/// assert_eq!(unit.shift(Item(0), Shift(rights::SHIFT_MAX)), Ok(()));
+/// assert_eq!(unit.shift(Item(0), Shift(256)), Err(Refusal::OutOfRange));
+/// ```
+#[derive(Clone, Copy, Debug, PartialEq, Eq, PartialOrd, Ord, Hash)]
+pub struct Shift(pub u32);

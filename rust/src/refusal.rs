@@ -14,7 +14,7 @@ macro_rules! refusals {
         /// let refusal = Lists::fresh().create(Item(0), Item(64)).unwrap_err();
         /// assert_eq!(refusal, Refusal::OutOfRange);
         /// assert_eq!(refusal.number(), 3);
-        /// assert_eq!(refusal.text(), "an item, a right or a depth is above its limit");
+        /// assert_eq!(refusal.text(), "an item, a right, a depth or a shift is above its limit");
         /// assert_eq!(Refusal::try_from(3), Ok(refusal));
         /// ```
         #[derive(Clone, Copy, Debug, PartialEq, Eq, Hash)]
@@ -65,6 +65,8 @@ refusals! {
     EditRight = EDIT_RIGHT,
     Full = FULL,
     Malformed = MALFORMED,
+    ShiftBack = SHIFT_BACK,
+    LastPast = LAST_PAST,
 }
 
 impl fmt::Display for Refusal {

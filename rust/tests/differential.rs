@@ -4,12 +4,14 @@ mod engine;
 mod generator;
 mod judge;
 mod model;
+mod situations;
 
 use engine::{check_chains, give_chains, Flat};
 use generator::{seed, Bias, Generator, Trace, BIASES};
 use judge::{flat_answer, judge_chain};
 use model::{image_of, loans_image, Command, GrantLayout, Journal, Layout, ListLayout, RowLayout};
 use rights::lent;
+use situations::Situations;
 
 /// The images of the three units.
 #[derive(Clone, PartialEq, Eq)]
@@ -59,10 +61,11 @@ struct Counts {
     commands: u64,
     checks: u64,
     /// Commands by number.
-    numbers: [u64; 11],
+    numbers: [u64; 14],
     /// Checks of the chain unit that said yes, by depth and by number of persons.
     depths: [u64; 8],
     persons: [u64; 9],
+    situations: Situations,
 }
 
 impl Counts {
@@ -72,14 +75,17 @@ impl Counts {
         sum(&mut self.numbers, &other.numbers);
         sum(&mut self.depths, &other.depths);
         sum(&mut self.persons, &other.persons);
+        self.situations.add(&other.situations);
     }
 
-    /// Every number of a command, every depth and every length of a chain came up.
+    /// Every number of a command, every depth and every length of a chain came up, and every
+    /// situation that shifts are about.
     fn assert_broad(&self) {
-        let given = [0, 3, 4, 5, 6, 7, 8, 9, 10];
+        let given = [0, 3, 4, 5, 6, 7, 8, 9, 10, 12, 13];
         assert!(given.iter().all(|&n| self.numbers[n] > 0), "numbers {:?}", self.numbers);
         assert!(self.depths.iter().all(|&n| n > 0), "depths {:?}", self.depths);
         assert!(self.persons[1..].iter().all(|&n| n > 0), "persons {:?}", self.persons);
+        self.situations.assert_broad();
     }
 }
 
@@ -110,7 +116,9 @@ impl Run {
 
     fn command(&mut self, step: u32) {
         let command = self.generator.command(&self.journal, step);
-        let number = self.journal.give(command);
+        let number = self.journal.answer(command);
+        self.counts.situations.command(&self.journal, command, number);
+        assert_eq!(self.journal.give(command), number);
         if number == 0 {
             self.expected = Images::of(&self.journal);
         }
@@ -123,8 +131,11 @@ impl Run {
     /// The same command to each unit that has it.
     fn give(&mut self, command: Command, number: u32) {
         let images = &mut self.images;
-        let flat = !matches!(command, Command::Lend { .. } | Command::Recall { .. });
-        let expected = Some(number).filter(|_| flat);
+        let passed_over = matches!(
+            command,
+            Command::Lend { .. } | Command::Recall { .. } | Command::Shift { .. }
+        );
+        let expected = Some(number).filter(|_| !passed_over);
         assert_eq!(ListLayout::give(&mut images.lists, command), expected, "lists, {command:?}");
         assert_eq!(RowLayout::give(&mut images.rows, command), expected, "rows, {command:?}");
         let chains = give_chains(&mut images.grants, &mut images.loans, command);
@@ -133,12 +144,15 @@ impl Run {
 
     /// Checks of a few questions; no check changes an image.
     fn sample(&mut self) {
-        for _ in 0..3 {
+        for n in 0..3 {
             let question = self.generator.question(&self.journal);
             let (who, on, right) = question;
             let known = who < 64 && on < 64 && right < 8;
             let best = if known { self.journal.best(on, right)[who as usize] } else { None };
             self.check(question, best);
+            if known && n == 0 {
+                self.counts.situations.answer(&self.journal, question);
+            }
         }
         self.images.compare(&self.expected);
     }
@@ -236,6 +250,7 @@ fn lists_of_every_bias(commands: u64, everything_each: u64) -> Counts {
         total.add(&counts);
     }
     println!("total: {total:?}");
+    total.situations.print();
     total
 }
 
@@ -248,7 +263,7 @@ fn short() {
 #[test]
 #[ignore = "takes minutes"]
 fn long() {
-    let counts = lists_of_every_bias(1_250_000, 50);
+    let counts = lists_of_every_bias(1_120_000, 50);
     counts.assert_broad();
     assert!(counts.commands >= 10_000_000);
 }

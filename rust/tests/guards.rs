@@ -60,7 +60,7 @@ fn touching_a_guard_page() {
 fn state() -> Journal {
     let mut journal = Journal::fresh();
     journal.grants.insert(Grant { item: 0, right: 1, person: 0, depth: 2 });
-    journal.loans.insert(Loan { lender: 0, item: 0, right: 1, borrower: 0, depth: 1 });
+    journal.loans.insert(Loan { lender: 0, item: 0, right: 1, borrower: 0, depth: 1, last: 0 });
     journal
 }
 

@@ -1,9 +1,11 @@
-//! The chain unit's type on the handover examples of document 01, E1 to E13.
+//! The chain unit's type on the handover examples of document 01, E1 to E13, its loans open-ended,
+//! and on the story of document 02's request K1.
 
-use rights::{Chains, Depth, Item, Refusal, Right};
+use rights::{Chains, Depth, Item, Refusal, Right, Shift};
 
 const ON: Item = Item(9);
 const RIGHT: Right = Right(1);
+const OPEN_ENDED: Shift = Shift(0);
 
 /// What every handover example starts from.
 fn base() -> Chains {
@@ -12,8 +14,8 @@ fn base() -> Chains {
         assert_eq!(unit.create(Item(0), Item(on)), Ok(()));
     }
     assert_eq!(unit.allow(Item(0), Item(3), ON, RIGHT, Depth(2)), Ok(()));
-    assert_eq!(unit.lend(Item(3), Item(4), ON, RIGHT, Depth(1)), Ok(()));
-    assert_eq!(unit.lend(Item(4), Item(5), ON, RIGHT, Depth(0)), Ok(()));
+    assert_eq!(unit.lend(Item(3), Item(4), ON, RIGHT, Depth(1), OPEN_ENDED), Ok(()));
+    assert_eq!(unit.lend(Item(4), Item(5), ON, RIGHT, Depth(0), OPEN_ENDED), Ok(()));
     unit
 }
 
@@ -30,7 +32,7 @@ fn e1_to_e4() {
     assert_eq!(check(&unit, 5), Some((0, vec![3, 4, 5])));
     assert_eq!(check(&unit, 4), Some((1, vec![3, 4])));
     assert_eq!(check(&unit, 0), None);
-    assert_eq!(unit.recall(Item(3), Item(4), ON, RIGHT, Depth(0)), Ok(()));
+    assert_eq!(unit.recall(Item(3), Item(4), ON, RIGHT, Depth(0), OPEN_ENDED), Ok(()));
     assert_eq!(check(&unit, 4), Some((1, vec![3, 4])));
 }
 
@@ -43,7 +45,7 @@ fn e5_to_e7() {
     assert_eq!(check(&e5, 4), Some((0, vec![3, 4])));
     assert_eq!(check(&e5, 5), None);
     let mut e6 = base();
-    assert_eq!(e6.lend(Item(3), Item(5), ON, RIGHT, Depth(5)), Ok(()));
+    assert_eq!(e6.lend(Item(3), Item(5), ON, RIGHT, Depth(5), OPEN_ENDED), Ok(()));
     assert_eq!(check(&e6, 5), Some((1, vec![3, 5])));
     let mut e7 = base();
     assert_eq!(e7.delete(Item(0), Item(4)), Ok(()));
@@ -61,7 +63,7 @@ fn e8_to_e12() {
     assert_eq!(unit.allow(Item(3), Item(4), ON, RIGHT, Depth(0)), Err(Refusal::NoEdit));
     assert_eq!(unit.create(Item(7), Item(3)), Err(Refusal::ByDead));
     assert_eq!(unit.delete(Item(0), Item(7)), Err(Refusal::NamedDead));
-    let right_0 = unit.lend(Item(3), Item(4), ON, Right(0), Depth(0));
+    let right_0 = unit.lend(Item(3), Item(4), ON, Right(0), Depth(0), OPEN_ENDED);
     assert_eq!(right_0, Err(Refusal::EditRight));
 }
 
@@ -73,7 +75,7 @@ fn e13() {
     let mut lend = |n: usize| {
         let (by, to) = (persons[n % 5], persons[n / 5 % 5]);
         let (right, depth) = (Right(2 + n as u32 / 25 % 6), Depth(n as u32 / 150));
-        unit.lend(Item(by), Item(to), ON, right, depth)
+        unit.lend(Item(by), Item(to), ON, right, depth, OPEN_ENDED)
     };
     for n in 0..1022 {
         assert_eq!(lend(n), Ok(()), "loan {n}");
@@ -81,4 +83,24 @@ fn e13() {
     assert_eq!(lend(1022), Err(Refusal::Full));
     assert_eq!(lend(1021), Ok(()));
     assert_eq!(unit.loans()[0], 1024);
+}
+
+/// K1: in shift 3 the right is lent by 4 to 0, for this shift alone, and that is forgotten. 0 has
+/// it through 3 and 4 now, and in the next shift no longer. The shift goes back only after a
+/// recall.
+#[test]
+fn loan_for_one_shift() {
+    let mut unit = base();
+    assert_eq!(unit.shift(Item(0), Shift(3)), Ok(()));
+    assert_eq!(unit.lend(Item(4), Item(0), ON, RIGHT, Depth(0), Shift(3)), Ok(()));
+    assert_eq!(check(&unit, 0), Some((0, vec![3, 4, 0])));
+    assert_eq!(unit.shift(Item(0), Shift(4)), Ok(()));
+    assert_eq!(check(&unit, 0), None);
+    assert_eq!(check(&unit, 5), Some((0, vec![3, 4, 5])));
+    assert_eq!(unit.shift(Item(0), Shift(3)), Err(Refusal::ShiftBack));
+    let again = unit.lend(Item(4), Item(0), ON, RIGHT, Depth(0), Shift(3));
+    assert_eq!(again, Err(Refusal::LastPast));
+    assert_eq!(unit.recall(Item(4), Item(0), ON, RIGHT, Depth(0), Shift(3)), Ok(()));
+    assert_eq!(unit.shift(Item(0), Shift(3)), Ok(()));
+    assert_eq!(check(&unit, 0), None);
 }

@@ -317,7 +317,7 @@ fn not_in_order() {
     let rootless = Journal {
         live: BTreeSet::from([3]),
         grants: BTreeSet::from([grant(3, 3, 0)]),
-        loans: BTreeSet::new(),
+        ..Journal::fresh()
     };
     Units::of(&rootless).refuse(2, "item 0 dead");
     fresh_and(grant(5, 0, 1)).refuse(2, "a dead person named");

@@ -1,12 +1,16 @@
-//! The model held against the paper's own figures and examples, and against chains walked one by
-//! one.
+//! The model held against the papers' own figures and examples, and against chains walked one by
+//! one. What stands in quotation marks is the text of document 02.
 
 mod generator;
 mod model;
 
+use std::collections::BTreeSet;
+
 use generator::Random;
-use model::commands::{allow, create, delete, lend, recall, withdraw, BASE};
-use model::{word_of, Ending, Grant, Journal, Loan};
+use model::commands::{allow, create, delete, lend, recall, shift, withdraw, BASE};
+use model::{
+    head_of, loan_of, loans_image, loans_in_order, word_of, Ending, Grant, Head, Journal, Loan,
+};
 
 const ON: u32 = 9;
 const RIGHT: u32 = 1;
@@ -36,7 +40,7 @@ fn checks_e1_to_e3() {
 #[test]
 fn changes_e4_to_e7() {
     let mut e4 = base();
-    assert_eq!(e4.give(recall(3, 4, ON, RIGHT, 0)), 0);
+    assert_eq!(e4.give(recall(3, 4, ON, RIGHT, 0, 0)), 0);
     assert_eq!(best(&e4, 4), Some(1));
     let mut e5 = base();
     assert_eq!(e5.give(withdraw(0, 3, ON, RIGHT)), 0);
@@ -44,7 +48,7 @@ fn changes_e4_to_e7() {
     assert_eq!(e5.give(allow(0, 3, ON, RIGHT, 1)), 0);
     assert_eq!((best(&e5, 4), best(&e5, 5)), (Some(0), None));
     let mut e6 = base();
-    assert_eq!(e6.give(lend(3, 5, ON, RIGHT, 5)), 0);
+    assert_eq!(e6.give(lend(3, 5, ON, RIGHT, 5, 0)), 0);
     assert_eq!(best(&e6, 5), Some(1));
     assert_eq!(e6.through(&[3, 5], ON, RIGHT), Some(1));
     let mut e7 = base();
@@ -80,34 +84,131 @@ fn full_e13() {
     let pairs = persons.iter().flat_map(|by| persons.iter().map(move |to| (*by, *to)));
     let on_keys = pairs.flat_map(|(by, to)| (2..8).map(move |right| (by, to, right)));
     let every = on_keys.flat_map(|(by, to, right)| (0..8).map(move |depth| (by, to, right, depth)));
-    let numbers: Vec<u32> =
-        every.map(|(by, to, right, depth)| journal.give(lend(by, to, ON, right, depth))).collect();
+    let give = |(by, to, right, depth)| journal.give(lend(by, to, ON, right, depth, 0));
+    let numbers: Vec<u32> = every.map(give).collect();
     assert_eq!(numbers[..1022], [0; 1022]);
     assert!(numbers[1022..].iter().all(|&number| number == 10));
     assert_eq!(journal.loans.len(), 1024);
-    assert_eq!(journal.give(lend(3, 4, ON, RIGHT, 1)), 0);
+    assert_eq!(journal.give(lend(3, 4, ON, RIGHT, 1, 0)), 0);
 }
 
+/// "The eight upper bits of a loan hold the last shift": 823,840 + 5 · 16,777,216 and + 255 · that.
 #[test]
 fn loan_word() {
-    let loan = Loan { lender: 3, item: 9, right: 1, borrower: 4, depth: 0 };
-    assert_eq!(word_of(&loan), 823_840);
+    let loan = Loan { lender: 3, item: 9, right: 1, borrower: 4, depth: 0, last: 0 };
+    for (last, word) in [(0, 823_840), (5, 84_709_920), (255, 4_279_013_920)] {
+        assert_eq!(word_of(&Loan { last, ..loan }), word);
+        assert_eq!(loan_of(word), Loan { last, ..loan });
+    }
+}
+
+/// "Loan word 0 becomes shift·2^16 + count, fresh shift 0": 3 · 65,536 + 2 is 196,610.
+#[test]
+fn loan_word_0() {
+    assert_eq!(loans_image(&Journal::fresh())[0], 0);
+    let mut journal = base();
+    assert_eq!(journal.give(shift(0, 3)), 0);
+    let mut image = loans_image(&journal);
+    assert_eq!(image[0], 196_610);
+    assert_eq!(head_of(&image), Head { shift: 3, count: 2 });
+    let words = [(196_610, true), (255 * 65_536 + 2, true), (256 * 65_536 + 2, false)];
+    for (word_0, in_order) in words {
+        image[0] = word_0;
+        assert_eq!(loans_in_order(&image), in_order, "{word_0}");
+    }
+}
+
+/// "A loan carries only while open-ended or not past its last shift."
+#[test]
+fn carries() {
+    let loan = |last| Loan { lender: 3, item: 9, right: 1, borrower: 4, depth: 0, last };
+    let carried = |last| [0, 4, 5, 6, 255].map(|shift| loan(last).carries_in(shift));
+    assert_eq!(carried(0), [true; 5]);
+    assert_eq!(carried(5), [true, true, true, false, false]);
+    assert_eq!(carried(255), [true; 5]);
+}
+
+/// E6's loan with last shift 5: in shift 5 the answer is E6's; in 6 the loan is past, and the
+/// answer is E1's.
+#[test]
+fn chains_in_shifts() {
+    let mut journal = base();
+    assert_eq!(journal.give(lend(3, 5, ON, RIGHT, 5, 5)), 0);
+    for (now, allowance, alone) in [(5, 1, Some(1)), (6, 0, None)] {
+        assert_eq!(journal.give(shift(0, now)), 0);
+        assert_eq!(best(&journal, 5), Some(allowance));
+        assert_eq!(journal.through(&[3, 5], ON, RIGHT), alone);
+    }
+}
+
+/// 12 "after 8", "when the new shift is below the present one and such a loan stands"; "the shift
+/// may start again lower once no loan with a last shift stands"; 3 "also covers a shift above 255".
+#[test]
+fn numbers_of_shift() {
+    let mut journal = base();
+    assert_eq!(journal.give(lend(3, 4, ON, RIGHT, 1, 5)), 0);
+    let give = |journal: &mut Journal, by, now| journal.give(shift(by, now));
+    assert_eq!([255, 5, 6].map(|now| journal.answer(shift(0, now))), [0; 3]);
+    assert_eq!(give(&mut journal, 0, 6), 0);
+    assert_eq!([6, 5, 0].map(|now| give(&mut journal, 0, now)), [0, 12, 12]);
+    assert_eq!([256, u32::MAX].map(|now| give(&mut journal, 64, now)), [3, 3]);
+    assert_eq!([7, 64, 3].map(|by| give(&mut journal, by, 5)), [4, 3, 8]);
+    assert_eq!(journal.give(recall(3, 4, ON, RIGHT, 1, 5)), 0);
+    assert_eq!((give(&mut journal, 3, 5), give(&mut journal, 0, 5)), (8, 0));
+    assert_eq!((journal.shift, journal.loans.len()), (5, 2));
+}
+
+/// 13, "for lend only, when last is set and below the present shift, between 9 and 10".
+#[test]
+fn numbers_of_last() {
+    let mut journal = base();
+    assert_eq!(journal.give(shift(0, 6)), 0);
+    let of_right = |right, last| lend(3, 4, ON, right, 1, last);
+    assert_eq!([0, 5, 6, 255, 256].map(|last| journal.answer(of_right(2, last))), [0, 13, 0, 0, 3]);
+    assert_eq!(journal.answer(of_right(0, 5)), 9);
+    assert_eq!(journal.answer(lend(3, 7, ON, RIGHT, 1, 5)), 5);
+    assert_eq!(journal.answer(recall(3, 4, ON, RIGHT, 1, 5)), 0);
+    assert_eq!(journal.answer(recall(3, 4, ON, RIGHT, 1, 256)), 3);
+    journal.loans = open_ended(1024);
+    assert_eq!([0, 5, 6].map(|last| journal.answer(of_right(2, last))), [10, 13, 10]);
+}
+
+/// So many loans, at most 1,024: rights 1 and 2 on item 0, from 0 to each person at each depth.
+fn open_ended(count: u32) -> BTreeSet<Loan> {
+    let loans: BTreeSet<Loan> = (512..512 + count).map(loan_of).collect();
+    assert_eq!((loans.len(), loans.iter().all(|loan| loan.last == 0)), (count as usize, true));
+    loans
+}
+
+/// A past loan stands: lent again it has 13, beside 1,023 others it makes the table full, and a
+/// delete ends it. The shift stays.
+#[test]
+fn past_loans() {
+    let mut journal = Journal { loans: open_ended(1023), ..base() };
+    for command in [lend(3, 4, ON, 2, 1, 5), shift(0, 6)] {
+        assert_eq!(journal.give(command), 0);
+    }
+    assert_eq!([5, 6, 0].map(|last| journal.answer(lend(3, 4, ON, 2, 1, last))), [13, 10, 10]);
+    assert_eq!((journal.dated().count(), journal.give(delete(0, 4))), (1, 0));
+    assert_eq!((journal.dated().count(), journal.shift), (0, 6));
 }
 
 /// The header's sizes and limits are the paper's.
 #[test]
 fn constants() {
     assert_eq!((rights::ITEM_MAX, rights::RIGHT_MAX, rights::DEPTH_MAX), (63, 7, 7));
+    assert_eq!(rights::SHIFT_MAX, 255);
     assert_eq!((rights::LISTS_WORDS, rights::ROWS_BYTES), (513, 4104));
     assert_eq!((rights::GRANTS_BYTES, rights::LOANS_WORDS), (32_776, 1025));
     assert_eq!((rights::LOANS_MAX, rights::CHAIN_PERSONS, rights::NO_PERSON), (1024, 8, 255));
     assert_eq!((rights::DONE, rights::MALFORMED), (0, 11));
+    assert_eq!((rights::SHIFT_BACK, rights::LAST_PAST), (12, 13));
 }
 
 /// Every chain there is, walked one by one: its ending and those of all that prolong it.
 fn walk(journal: &Journal, last: Ending, persons: u32, all: &mut Vec<(Ending, u32)>) {
     all.push((last, persons));
-    for longer in journal.longer(last, ON, RIGHT) {
+    for longer in journal.longer(last, journal.shift, ON, RIGHT) {
         walk(journal, longer, persons + 1, all);
     }
 }
@@ -124,7 +225,7 @@ fn endings_are_those_of_all_chains() {
         }
         assert!(all.iter().all(|&(_, persons)| persons <= 8));
         let mut walked: Vec<Ending> = all.into_iter().map(|(ending, _)| ending).collect();
-        let mut found = journal.endings(ON, RIGHT);
+        let mut found = journal.endings(journal.shift, ON, RIGHT);
         walked.sort();
         walked.dedup();
         found.sort();
@@ -132,16 +233,35 @@ fn endings_are_those_of_all_chains() {
     }
 }
 
-/// A few grants and loans among five persons.
+/// "journal and chains use only carrying loans": in shift 3 the answers are those of a journal that
+/// lacks the loans with last shift 1 or 2.
+#[test]
+fn endings_are_those_of_carrying_loans() {
+    let mut random = Random::new(2);
+    let mut fewer = 0;
+    for _ in 0..300 {
+        let journal = small(&mut random);
+        let mut carrying = journal.clone();
+        carrying.loans.retain(|loan| [0, 3, 4].contains(&loan.last));
+        fewer += u32::from(carrying != journal);
+        carrying.shift = 0;
+        assert_eq!(journal.best(ON, RIGHT), carrying.best(ON, RIGHT));
+        assert_eq!(journal.best_in(0, ON, RIGHT), Journal { shift: 0, ..journal }.best(ON, RIGHT));
+    }
+    assert!(fewer > 0);
+}
+
+/// A few grants and loans among five persons, in shift 3; last shifts are 1 to 4, or none.
 fn small(random: &mut Random) -> Journal {
-    let mut journal = Journal::fresh();
+    let mut journal = Journal { shift: 3, ..Journal::fresh() };
     for _ in 0..3 {
         let (person, depth) = (random.below(5), random.below(8));
         journal.grants.insert(Grant { item: ON, right: RIGHT, person, depth });
     }
     for _ in 0..8 {
         let (lender, borrower, depth) = (random.below(5), random.below(5), random.below(8));
-        journal.loans.insert(Loan { lender, item: ON, right: RIGHT, borrower, depth });
+        let last = random.below(5);
+        journal.loans.insert(Loan { lender, item: ON, right: RIGHT, borrower, depth, last });
     }
     journal
 }

@@ -3,9 +3,9 @@
 
 mod model;
 
-use model::commands::{allow, create, delete, lend, recall, withdraw};
+use model::commands::{allow, create, delete, lend, recall, shift, withdraw};
 use model::{image_of, loans_image, Command, GrantLayout, Journal, ListLayout, RowLayout};
-use rights::{answer, lent, Chains, Depth, Item, Lists, Refusal, Right, Rows};
+use rights::{answer, lent, Chains, Depth, Item, Lists, Refusal, Right, Rows, Shift};
 
 /// A type that owns its images.
 trait Owned {
@@ -37,7 +37,7 @@ macro_rules! own_flat {
     ($unit:ident, $layout:ident) => {
         impl Owned for $unit {
             fn give(&mut self, command: Command) -> Result<(), Refusal> {
-                by_method!(self, command, _ => unreachable!("no loans"))
+                by_method!(self, command, _ => unreachable!("neither loans nor shifts"))
             }
 
             fn assert_says(&self, journal: &Journal) {
@@ -53,12 +53,13 @@ own_flat!(Rows, RowLayout);
 impl Owned for Chains {
     fn give(&mut self, command: Command) -> Result<(), Refusal> {
         by_method!(self, command,
-            Command::Lend { by, to, on, right, depth } => {
-                self.lend(Item(by), Item(to), Item(on), Right(right), Depth(depth))
+            Command::Lend { by, to, on, right, depth, last } => {
+                self.lend(Item(by), Item(to), Item(on), Right(right), Depth(depth), Shift(last))
             }
-            Command::Recall { by, to, on, right, depth } => {
-                self.recall(Item(by), Item(to), Item(on), Right(right), Depth(depth))
+            Command::Recall { by, to, on, right, depth, last } => {
+                self.recall(Item(by), Item(to), Item(on), Right(right), Depth(depth), Shift(last))
             }
+            Command::Shift { by, now } => self.shift(Item(by), Shift(now)),
         )
     }
 
@@ -79,13 +80,14 @@ fn give(unit: &mut impl Owned, journal: &mut Journal, commands: &[Command]) {
     }
 }
 
-/// Items 3, 5, 9 and 12 live, and 3 may edit 9; 3 grants and lends right 5 on 9 to 12.
+/// Items 3, 5, 9 and 12 live, and 3 may edit 9; 3 grants and lends right 5 on 9 to 12, the loan up
+/// to shift 7.
 const ITEMS: [Command; 4] = [create(0, 3), create(0, 5), create(3, 9), create(0, 12)];
 const GRANT: Command = allow(3, 12, 9, 5, 2);
 const END_OF_GRANT: Command = withdraw(3, 12, 9, 5);
 const END_OF_ITEM: Command = delete(3, 9);
-const LOAN: Command = lend(3, 12, 9, 5, 2);
-const END_OF_LOAN: Command = recall(3, 12, 9, 5, 2);
+const LOAN: Command = lend(3, 12, 9, 5, 2, 7);
+const END_OF_LOAN: Command = recall(3, 12, 9, 5, 2, 7);
 
 /// One refused command for each number that a command of every unit can have, from 3 on.
 const REFUSED: [(Command, Refusal); 6] = [
@@ -218,7 +220,7 @@ mod chains {
     fn commands() {
         let (mut unit, mut journal) = created_and(&[GRANT, LOAN]);
         refuse(&mut unit, &mut journal);
-        assert_eq!(unit.give(lend(3, 12, 9, 0, 2)), Err(Refusal::EditRight));
+        assert_eq!(unit.give(lend(3, 12, 9, 0, 2, 0)), Err(Refusal::EditRight));
         unit.assert_says(&journal);
         give(&mut unit, &mut journal, &[END_OF_GRANT, END_OF_LOAN, GRANT, LOAN, END_OF_ITEM]);
     }
@@ -226,12 +228,48 @@ mod chains {
     /// The loan as the paper writes it down, and that a recall ends it and no other.
     #[test]
     fn recall_ends_a_loan() {
-        let (mut unit, mut journal) = created_and(&[LOAN, lend(3, 12, 9, 5, 1)]);
-        let word = (3 << 18) + (9 << 12) + (5 << 9) + (12 << 3);
+        let (mut unit, mut journal) = created_and(&[LOAN, lend(3, 12, 9, 5, 1, 7)]);
+        let word = (7 << 24) + (3 << 18) + (9 << 12) + (5 << 9) + (12 << 3);
         assert_eq!(unit.loans()[..4], [2, word + 1, word + 2, 0]);
         give(&mut unit, &mut journal, &[END_OF_LOAN]);
         assert_eq!(unit.loans()[..4], [1, word + 1, 0, 0]);
-        assert_eq!(unit.give(recall(3, 12, 9, 5, 8)), Err(Refusal::OutOfRange));
+        assert_eq!(unit.give(recall(3, 12, 9, 5, 8, 0)), Err(Refusal::OutOfRange));
+        assert_eq!(unit.give(recall(3, 12, 9, 5, 1, 256)), Err(Refusal::OutOfRange));
+        unit.assert_says(&journal);
+    }
+
+    /// By 3, who may edit item 0 too: shift 7 is the loan's last and 8 is past it. Each refusal by
+    /// its name.
+    #[test]
+    fn shifts() {
+        let (mut unit, mut journal) = created_and(&[allow(0, 3, 0, 0, 1), LOAN, shift(3, 7)]);
+        assert_eq!(unit.loans()[0], (7 << 16) + 1);
+        give(&mut unit, &mut journal, &[LOAN, shift(3, 8), lend(3, 12, 9, 5, 2, 0)]);
+        assert_eq!(unit.loans()[0], (8 << 16) + 2);
+        let refused = [
+            (shift(3, 256), Refusal::OutOfRange),
+            (lend(3, 12, 9, 5, 2, 256), Refusal::OutOfRange),
+            (shift(4, 9), Refusal::ByDead),
+            (shift(5, 9), Refusal::NoEdit),
+            (shift(3, 7), Refusal::ShiftBack),
+            (LOAN, Refusal::LastPast),
+        ];
+        for (command, refusal) in refused {
+            assert_eq!(unit.give(command), Err(refusal), "{command:?}");
+            give(&mut unit, &mut journal, &[command]);
+        }
+        give(&mut unit, &mut journal, &[END_OF_LOAN, shift(3, 7), LOAN]);
+    }
+
+    /// The loan gives 12 the right in shift 7, its last, and no longer in shift 8.
+    #[test]
+    fn check_in_shifts() {
+        let (mut unit, mut journal) = created_and(&[allow(3, 3, 9, 5, 4), LOAN]);
+        for (now, yes) in [(7, true), (8, false)] {
+            give(&mut unit, &mut journal, &[shift(0, now)]);
+            let answer = unit.check(Item(12), Item(9), Right(5)).expect("an answer");
+            assert_eq!(answer.yes(), yes, "in shift {now}");
+        }
     }
 
     #[test]
@@ -240,7 +278,7 @@ mod chains {
         let ask = |unit: &Chains, who, on, right| unit.check(Item(who), Item(on), Right(right));
         let no = ask(&unit, 12, 9, 5).expect("an answer");
         assert_eq!((no.yes(), no.depth(), no.persons()), (false, Depth(0), &[][..]));
-        give(&mut unit, &mut journal, &[allow(3, 3, 9, 5, 4), LOAN, lend(12, 5, 9, 5, 7)]);
+        give(&mut unit, &mut journal, &[allow(3, 3, 9, 5, 4), LOAN, lend(12, 5, 9, 5, 7, 0)]);
         let yes = ask(&unit, 12, 9, 5).expect("an answer");
         assert_eq!((yes.yes(), yes.depth()), (true, Depth(2)));
         assert_eq!(yes.persons(), [Item(3), Item(12)]);
@@ -273,7 +311,7 @@ mod chains {
 
     #[test]
     fn stored_in_order() {
-        let (unit, journal) = created_and(&[GRANT, LOAN]);
+        let (unit, journal) = created_and(&[GRANT, LOAN, shift(0, 255)]);
         let made = stored(unit.grants(), unit.loans()).expect("in order");
         made.assert_says(&journal);
     }
@@ -286,8 +324,10 @@ mod chains {
         assert_eq!(refused(&grants, &loans[1..]), Refusal::WrongLength);
         assert_eq!(refused(&grants[1..], &loans), Refusal::WrongLength);
         assert_eq!(refused(&[], &[]), Refusal::WrongLength);
-        loans[0] = 2;
-        assert_eq!(refused(&grants, &loans), Refusal::NotInOrder);
+        for word_0 in [2, 1025, (256 << 16) + 1] {
+            loans[0] = word_0;
+            assert_eq!(refused(&grants, &loans), Refusal::NotInOrder);
+        }
         loans[0] = 1;
         grants[0] &= !1;
         assert_eq!(refused(&grants, &loans), Refusal::NotInOrder);
@@ -295,14 +335,14 @@ mod chains {
 
     #[test]
     fn reset() {
-        let (mut unit, _) = created_and(&[GRANT, LOAN]);
+        let (mut unit, _) = created_and(&[GRANT, LOAN, shift(0, 5)]);
         unit.reset();
         unit.assert_says(&Journal::fresh());
     }
 
     #[test]
     fn fresh_in() {
-        let mut place = MaybeUninit::new(created_and(&[GRANT, LOAN]).0);
+        let mut place = MaybeUninit::new(created_and(&[GRANT, LOAN, shift(0, 5)]).0);
         Chains::fresh_in(&mut place).assert_says(&Journal::fresh());
     }
 
@@ -310,7 +350,7 @@ mod chains {
     fn cloned() {
         let (unit, journal) = created_and(&[GRANT, LOAN]);
         unit.clone().assert_says(&journal);
-        let (mut other, _) = created_and(&[lend(0, 5, 3, 1, 0)]);
+        let (mut other, _) = created_and(&[lend(0, 5, 3, 1, 0, 0)]);
         assert!(other != unit);
         other.clone_from(&unit);
         other.assert_says(&journal);

@@ -1,7 +1,7 @@
 //! Ways to damage an image.
 
 use crate::generator::Random;
-use crate::model::{word_of, Cell, Grant, Journal, Layout, Loan};
+use crate::model::{head_of, word_of, Cell, Grant, Head, Journal, Layout, Loan};
 
 /// A damage: what it is called and what it does to an image of the journal.
 pub type Damage<C> = (&'static str, fn(&mut Random, &Journal, &mut Vec<C>));
@@ -32,7 +32,7 @@ pub fn grant_damages<L: Layout>() -> [Damage<L::Cell>; 8] {
 }
 
 /// Damages of an image of loans.
-pub const LOAN_DAMAGES: [Damage<u32>; 14] = [
+pub const LOAN_DAMAGES: [Damage<u32>; 16] = [
     ("one bit", |random, _, image| flip_any(random, image)),
     ("one bit in use", |random, journal, image| {
         let used = journal.loans.len() as u32;
@@ -40,7 +40,16 @@ pub const LOAN_DAMAGES: [Damage<u32>; 14] = [
         image[word].flip(random.below(32));
     }),
     ("count", |random, _, image| {
-        image[0] = random.pick(&[0, 1, 2, 1023, 1024, 1025, 1026, 1 << 24, u32::MAX]);
+        let count = random.pick(&[0, 1, 2, 1023, 1024, 1025, 1026, 65_535]);
+        image[0] = Head { count, ..head_of(image) }.word();
+    }),
+    ("shift", |random, _, image| {
+        let shift = random.pick(&SHIFTS);
+        image[0] = Head { shift, ..head_of(image) }.word();
+    }),
+    ("shift and count", |random, _, image| {
+        let (shift, count) = (random.pick(&[256, 65_535]), random.pick(&[1025, 65_535]));
+        image[0] = Head { shift, count }.word();
     }),
     ("count by one", |random, _, image| {
         let up = random.percent(50);
@@ -54,13 +63,15 @@ pub const LOAN_DAMAGES: [Damage<u32>; 14] = [
         let at = neighbour(random, image);
         image[at + 1] = image[at];
     }),
-    ("2^24 added", |random, _, image| {
+    ("last shift", |random, _, image| {
         let at = neighbour(random, image);
-        image[at] |= 1 << (24 + random.below(8));
+        image[at].flip(24 + random.below(8));
     }),
-    ("word from 2^24 on", |random, journal, image| {
-        let word = word_of(&live_loan(random, journal));
-        insert(image, word | 1 << (24 + random.below(8)));
+    ("last shift of the greatest loan", |random, _, image| {
+        let at = head_of(image).count;
+        if at > 0 {
+            image[at] |= 1 << (24 + random.below(8));
+        }
     }),
     ("right 0", |random, journal, image| {
         let loan = Loan { right: 0, ..live_loan(random, journal) };
@@ -89,6 +100,9 @@ pub const LOAN_DAMAGES: [Damage<u32>; 14] = [
     }),
     ("length", |random, _, image| resize(random, image, 1025)),
 ];
+
+/// Shifts that an image may say, and some that none may.
+const SHIFTS: [u32; 8] = [0, 1, 254, 255, 256, 257, 511, 65_535];
 
 pub fn flip_any<C: Cell>(random: &mut Random, image: &mut [C]) {
     let cell = random.below(image.len() as u32) as usize;
@@ -142,7 +156,7 @@ fn live(random: &mut Random, journal: &Journal) -> u32 {
     journal.live.range(from..).next().copied().unwrap_or(0)
 }
 
-/// A loan between live items, standing or not.
+/// A loan between live items, standing or not, with any last shift or none.
 fn live_loan(random: &mut Random, journal: &Journal) -> Loan {
     Loan {
         lender: live(random, journal),
@@ -150,21 +164,22 @@ fn live_loan(random: &mut Random, journal: &Journal) -> Loan {
         right: 1 + random.below(7),
         borrower: live(random, journal),
         depth: random.below(8),
+        last: if random.percent(50) { 0 } else { random.below(256) },
     }
 }
 
 /// A word in use that has one after it, where there are two; else word 1.
 fn neighbour(random: &mut Random, image: &[u32]) -> usize {
-    let count = image[0];
+    let count = head_of(image).count;
     if count < 2 {
         return 1;
     }
-    1 + random.below(count - 1) as usize
+    1 + random.below(count as u32 - 1) as usize
 }
 
 /// Puts a word in its place among the loans in use, where there is room and it is not there.
 fn insert(image: &mut Vec<u32>, word: u32) {
-    let count = image[0] as usize;
+    let count = head_of(image).count;
     let used = &image[1..=count];
     if count == 1024 || used.contains(&word) {
         return;

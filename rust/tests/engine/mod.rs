@@ -39,7 +39,7 @@ macro_rules! flat {
                     Command::Withdraw { by, to, on, right } => {
                         Some(lent::$unit::withdraw(image, by, to, on, right))
                     }
-                    Command::Lend { .. } | Command::Recall { .. } => None,
+                    Command::Lend { .. } | Command::Recall { .. } | Command::Shift { .. } => None,
                 }
             }
 
@@ -75,12 +75,13 @@ pub fn give_chains(grants: &mut [u8], loans: &mut [u32], command: Command) -> u3
         Command::Withdraw { by, to, on, right } => {
             lent::chains::withdraw(grants, loans, by, to, on, right)
         }
-        Command::Lend { by, to, on, right, depth } => {
-            lent::chains::lend(grants, loans, by, to, on, right, depth)
+        Command::Lend { by, to, on, right, depth, last } => {
+            lent::chains::lend(grants, loans, by, to, on, right, depth, last)
         }
-        Command::Recall { by, to, on, right, depth } => {
-            lent::chains::recall(grants, loans, by, to, on, right, depth)
+        Command::Recall { by, to, on, right, depth, last } => {
+            lent::chains::recall(grants, loans, by, to, on, right, depth, last)
         }
+        Command::Shift { by, now } => lent::chains::shift(grants, loans, by, now),
     }
 }
 

@@ -160,7 +160,7 @@ impl ChainImages<'_> {
     /// Every call; the number that the images are refused with.
     pub fn try_all(&self, generator: &mut Generator, base: &Journal) -> u32 {
         let state = chain_state(self.grants, self.loans);
-        for kind in 0..6 {
+        for kind in 0..7 {
             self.command(&state, generator.of_kind(kind, base));
         }
         let question = generator.question(base);

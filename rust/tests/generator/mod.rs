@@ -1,6 +1,7 @@
 //! Seeded commands, biased to the states that are worth reaching.
 #![allow(dead_code)]
 
+use crate::model::commands::{lend, recall};
 use crate::model::{Command, Grant, Journal, Loan};
 
 /// splitmix64.
@@ -64,10 +65,14 @@ pub struct Bias {
     pub items: u32,
     /// Rights in play, from 0.
     pub rights: u32,
-    /// Shares of create, delete, allow, withdraw, lend, recall.
-    pub shares: [u32; 6],
+    /// Shares of create, delete, allow, withdraw, lend, recall, shift.
+    pub shares: [u32; 7],
+    /// Percent of loans with a last shift.
+    pub dated: u32,
     /// Percent of commands on one item and right.
     pub on_key: u32,
+    /// Percent of loans by one who has a grant.
+    pub held: u32,
     /// Percent of loans to the next item.
     pub to_next: u32,
     /// Percent of numbers that are anything.
@@ -83,28 +88,32 @@ const EVEN: Bias = Bias {
     name: "few items",
     items: 6,
     rights: 3,
-    shares: [10, 5, 30, 10, 30, 15],
+    shares: [10, 5, 30, 10, 30, 15, 4],
+    dated: 30,
     on_key: 0,
+    held: 30,
     to_next: 0,
     wild: 1,
     length: 2_000,
 };
 
-pub const BIASES: [Bias; 8] = [
+pub const BIASES: [Bias; 9] = [
     EVEN,
-    Bias { name: "one key", items: 10, shares: [5, 1, 20, 8, 50, 16], on_key: 90, ..EVEN },
+    Bias { name: "one key", items: 10, shares: [5, 1, 20, 8, 50, 16, 4], on_key: 90, ..EVEN },
     Bias {
         name: "long chains",
         items: 16,
-        shares: [4, 1, 3, 7, 60, 25],
+        shares: [12, 1, 3, 7, 60, 15, 2],
+        dated: 10,
         on_key: 97,
+        held: 0,
         to_next: 97,
         ..EVEN
     },
     Bias {
         name: "delete and create",
         items: 8,
-        shares: [28, 15, 25, 2, 28, 2],
+        shares: [28, 15, 25, 2, 28, 2, 10],
         on_key: 60,
         length: 400,
         ..EVEN
@@ -113,7 +122,7 @@ pub const BIASES: [Bias; 8] = [
         name: "full loans",
         items: 64,
         rights: 8,
-        shares: [2, 0, 6, 1, 88, 3],
+        shares: [2, 0, 6, 1, 88, 3, 2],
         wild: 0,
         length: 3_000,
         ..EVEN
@@ -121,14 +130,23 @@ pub const BIASES: [Bias; 8] = [
     Bias {
         name: "full loans of one key",
         items: 64,
-        shares: [2, 0, 6, 2, 86, 4],
+        shares: [2, 0, 6, 2, 86, 4, 2],
         on_key: 98,
         wild: 0,
         length: 3_000,
         ..EVEN
     },
     Bias { name: "beyond the limits", items: 64, rights: 8, wild: 25, length: 1_000, ..EVEN },
-    Bias { name: "many grants", items: 64, rights: 8, shares: [10, 2, 70, 8, 5, 5], ..EVEN },
+    Bias { name: "many grants", items: 64, rights: 8, shares: [10, 2, 70, 8, 5, 5, 2], ..EVEN },
+    Bias {
+        name: "shift after shift",
+        items: 8,
+        shares: [6, 2, 6, 8, 34, 34, 16],
+        dated: 70,
+        on_key: 80,
+        held: 80,
+        ..EVEN
+    },
 ];
 
 /// Numbers at and past the limits, and those that look small where a field is cut.
@@ -173,7 +191,8 @@ impl Generator {
             2 => Command::Allow { by: self.editor(journal, on), to, on, right, depth },
             3 => self.withdraw(journal),
             4 => self.lend(journal, on, right),
-            _ => self.recall(journal),
+            5 => self.recall(journal),
+            _ => Command::Shift { by: self.editor(journal, 0), now: self.now(journal) },
         }
     }
 
@@ -188,22 +207,50 @@ impl Generator {
         Command::Withdraw { by, to: grant.person, on: grant.item, right: grant.right }
     }
 
-    /// A loan that stands, one to the next item, or any.
+    /// A loan that stands, at times for another last shift, one to the next item, or any.
     fn lend(&mut self, journal: &Journal, on: u32, right: u32) -> Command {
-        if self.random.percent(5) {
-            let loan = self.standing(journal);
-            return Command::Lend {
-                by: loan.lender,
-                to: loan.borrower,
-                on: loan.item,
-                right: loan.right,
-                depth: loan.depth,
-            };
+        if self.random.percent(8) {
+            let Loan { lender, item, right, borrower, depth, last } = self.standing(journal);
+            let last = if self.random.percent(60) { last } else { self.last(journal) };
+            return lend(lender, borrower, item, right, depth, last);
         }
-        let by = self.living(journal);
+        let held = self.random.percent(self.bias.held);
+        let by = if held { self.holder(journal, on, right) } else { self.living(journal) };
         let next = self.random.percent(self.bias.to_next);
         let to = if next { (by % 64 + 1) % self.bias.items } else { self.living(journal) };
-        Command::Lend { by, to, on, right, depth: self.depth() }
+        lend(by, to, on, right, self.depth(), self.last(journal))
+    }
+
+    /// The last shift of a loan, if it has one: near the present shift, at times anything.
+    fn last(&mut self, journal: &Journal) -> u32 {
+        let present = journal.shift;
+        if !self.random.percent(self.bias.dated) {
+            return 0;
+        }
+        match self.random.below(100) {
+            0..=49 => present,
+            50..=64 => present + 1 + self.random.below(4),
+            65..=84 => present.saturating_sub(1),
+            85..=90 => self.random.below(present + 1),
+            91..=95 => self.random.pick(&[254, 255, 256, u32::MAX]),
+            _ => self.number(256),
+        }
+    }
+
+    /// A shift: near the present one, at times anything.
+    fn now(&mut self, journal: &Journal) -> u32 {
+        let present = journal.shift;
+        match self.random.below(100) {
+            0..=14 => present,
+            15..=49 => present + 1,
+            50..=69 => present.saturating_sub(1),
+            70..=84 => self.random.below(present + 1),
+            85..=89 => 0,
+            90..=94 => present + self.random.below(30),
+            95..=97 => self.random.pick(&[256, 257, u32::MAX]),
+            98 => 255,
+            _ => self.number(256),
+        }
     }
 
     /// A great depth where loans go to the next item, so that chains grow long.
@@ -214,37 +261,45 @@ impl Generator {
         self.number(8)
     }
 
-    /// A loan that stands, at times with another depth.
+    /// A loan that stands, often one with a last shift, at times with another depth or last shift.
     fn recall(&mut self, journal: &Journal) -> Command {
-        let loan = self.standing(journal);
-        let depth = if self.random.percent(80) { loan.depth } else { self.number(8) };
-        Command::Recall {
-            by: loan.lender,
-            to: loan.borrower,
-            on: loan.item,
-            right: loan.right,
-            depth,
-        }
+        let Loan { lender, item, right, borrower, depth, last } = self.standing_or_dated(journal);
+        let depth = if self.random.percent(80) { depth } else { self.number(8) };
+        let last = if self.random.percent(80) { last } else { self.last(journal) };
+        recall(lender, borrower, item, right, depth, last)
     }
 
     /// The first loan that stands from a random place on, or else a random one.
     pub fn standing(&mut self, journal: &Journal) -> Loan {
         let (item, right) = self.key();
         let (lender, borrower) = (self.item(), self.item());
-        let any = Loan { lender, item, right, borrower, depth: self.number(8) };
+        let any = Loan { lender, item, right, borrower, depth: self.number(8), last: 0 };
         journal.loans.range(any..).next().copied().unwrap_or(any)
+    }
+
+    /// A loan that stands, or as often the first from there on with a last shift.
+    fn standing_or_dated(&mut self, journal: &Journal) -> Loan {
+        let any = self.standing(journal);
+        let from_there = journal.loans.range(any..).chain(&journal.loans);
+        let dated = from_there.copied().find(|loan| loan.last != 0);
+        dated.filter(|_| self.random.percent(50)).unwrap_or(any)
     }
 
     /// One who may edit the item, mostly.
     fn editor(&mut self, journal: &Journal, item: u32) -> u32 {
+        self.holder(journal, item, 0)
+    }
+
+    /// One who has a grant of the right on the item, mostly.
+    fn holder(&mut self, journal: &Journal, item: u32, right: u32) -> u32 {
         let any = self.item();
         if self.random.percent(20) {
             return any;
         }
-        let at = |person| Grant { item, right: 0, person, depth: 0 };
+        let at = |person| Grant { item, right, person, depth: 0 };
         let later = journal.grants.range(at(any)..).next();
         let first = journal.grants.range(at(0)..).next();
-        let found = later.into_iter().chain(first).find(|g| g.item == item && g.right == 0);
+        let found = later.into_iter().chain(first).find(|g| g.item == item && g.right == right);
         found.map_or(any, |g| g.person)
     }
 
@@ -282,7 +337,7 @@ impl Generator {
     /// Who, on and right of a check, biased to loans that stand.
     pub fn question(&mut self, journal: &Journal) -> (u32, u32, u32) {
         if self.random.percent(60) {
-            let loan = self.standing(journal);
+            let loan = self.standing_or_dated(journal);
             return (loan.borrower, loan.item, loan.right);
         }
         let (on, right) = self.key();

@@ -12,22 +12,27 @@ pub struct Ending {
 impl Journal {
     /// For each person, the greatest last allowance of any chain on the item and right.
     pub fn best(&self, item: u32, right: u32) -> [Option<u32>; 64] {
+        self.best_in(self.shift, item, right)
+    }
+
+    /// The same in another shift; in shift 0 every loan carries.
+    pub fn best_in(&self, shift: u32, item: u32, right: u32) -> [Option<u32>; 64] {
         let mut best = [None; 64];
-        for ending in self.endings(item, right) {
+        for ending in self.endings(shift, item, right) {
             let person = &mut best[ending.person as usize];
             *person = (*person).max(Some(ending.allowance));
         }
         best
     }
 
-    /// Every ending of every chain on the item and right, each once.
-    pub fn endings(&self, item: u32, right: u32) -> Vec<Ending> {
+    /// Every ending of every chain on the item and right in that shift, each once.
+    pub fn endings(&self, shift: u32, item: u32, right: u32) -> Vec<Ending> {
         let mut found = self.starts(item, right);
         let mut seen = [[false; 8]; 64];
         found.retain(|e| !std::mem::replace(mark(&mut seen, e), true));
         let mut next = 0;
         while next < found.len() {
-            let longer = self.longer(found[next], item, right);
+            let longer = self.longer(found[next], shift, item, right);
             found.extend(longer.filter(|e| !std::mem::replace(mark(&mut seen, e), true)));
             next += 1;
         }
@@ -40,14 +45,21 @@ impl Journal {
         on_key.map(|g| Ending { person: g.person, allowance: g.depth }).collect()
     }
 
-    /// One loan more: ai is the smaller of a(i-1) - 1 and ei, and a(i-1) must be at least 1.
-    pub fn longer(&self, last: Ending, item: u32, right: u32) -> impl Iterator<Item = Ending> + '_ {
-        let at = |borrower, depth| Loan { lender: last.person, item, right, borrower, depth };
-        let loans = self.loans.range(at(0, 0)..=at(63, 7));
-        loans.filter(move |_| last.allowance >= 1).map(move |l| Ending {
-            person: l.borrower,
-            allowance: (last.allowance - 1).min(l.depth),
-        })
+    /// One loan more that carries in that shift: ai is the smaller of a(i-1) - 1 and ei, and a(i-1)
+    /// must be at least 1.
+    pub fn longer(
+        &self,
+        from: Ending,
+        shift: u32,
+        item: u32,
+        right: u32,
+    ) -> impl Iterator<Item = Ending> + '_ {
+        let Ending { person: lender, allowance } = from;
+        let at = |borrower, depth, last| Loan { lender, item, right, borrower, depth, last };
+        let loans = self.loans.range(at(0, 0, 0)..=at(63, 7, 255));
+        let carrying = loans.filter(move |l| allowance >= 1 && l.carries_in(shift));
+        carrying
+            .map(move |l| Ending { person: l.borrower, allowance: (allowance - 1).min(l.depth) })
     }
 
     /// The last allowance of the best chain through just these persons, if there is one.

@@ -1,4 +1,4 @@
-//! Commands by their arguments, in the order of the paper's journal section.
+//! Commands by their arguments, in the order of the papers.
 
 use super::journal::Command;
 
@@ -18,12 +18,16 @@ pub const fn withdraw(by: u32, to: u32, on: u32, right: u32) -> Command {
     Command::Withdraw { by, to, on, right }
 }
 
-pub const fn lend(by: u32, to: u32, on: u32, right: u32, depth: u32) -> Command {
-    Command::Lend { by, to, on, right, depth }
+pub const fn lend(by: u32, to: u32, on: u32, right: u32, depth: u32, last: u32) -> Command {
+    Command::Lend { by, to, on, right, depth, last }
 }
 
-pub const fn recall(by: u32, to: u32, on: u32, right: u32, depth: u32) -> Command {
-    Command::Recall { by, to, on, right, depth }
+pub const fn recall(by: u32, to: u32, on: u32, right: u32, depth: u32, last: u32) -> Command {
+    Command::Recall { by, to, on, right, depth, last }
+}
+
+pub const fn shift(by: u32, now: u32) -> Command {
+    Command::Shift { by, now }
 }
 
 /// What every handover example starts from.
@@ -33,6 +37,6 @@ pub const BASE: [Command; 7] = [
     create(0, 5),
     create(0, 9),
     allow(0, 3, 9, 1, 2),
-    lend(3, 4, 9, 1, 1),
-    lend(4, 5, 9, 1, 0),
+    lend(3, 4, 9, 1, 1, 0),
+    lend(4, 5, 9, 1, 0, 0),
 ];

@@ -128,14 +128,19 @@ pub fn image_of<L: Layout>(journal: &Journal) -> Vec<L::Cell> {
 
 /// The number of a loan in the image.
 pub fn word_of(loan: &Loan) -> u32 {
-    (loan.lender << 18) + (loan.item << 12) + (loan.right << 9) + (loan.borrower << 3) + loan.depth
+    (loan.last << 24)
+        + (loan.lender << 18)
+        + (loan.item << 12)
+        + (loan.right << 9)
+        + (loan.borrower << 3)
+        + loan.depth
 }
 
-/// The image of the journal's loans.
+/// The image of the journal's loans and its shift.
 pub fn loans_image(journal: &Journal) -> Vec<u32> {
     let mut words: Vec<u32> = journal.loans.iter().map(word_of).collect();
     words.sort();
-    let mut image = vec![words.len() as u32];
+    let mut image = vec![Head { shift: journal.shift, count: words.len() }.word()];
     image.extend(words);
     image.resize(1025, 0);
     image
@@ -153,6 +158,7 @@ pub fn chain_journal(grants: &[u8], loans: &[u32]) -> Option<Journal> {
     }
     let mut journal = read::<GrantLayout>(grants);
     journal.loans = loans_read(loans);
+    journal.shift = head_of(loans).shift;
     Some(journal).filter(Journal::names_live)
 }
 
@@ -166,30 +172,47 @@ fn read<L: Layout>(image: &[L::Cell]) -> Journal {
         let all = every.map(|(person, depth)| Grant { item, right, person, depth });
         grants.extend(all.filter(|grant| L::place(grant).has(image)));
     }
-    Journal { live, grants, loans: BTreeSet::new() }
+    Journal { live, grants, loans: BTreeSet::new(), shift: 0 }
 }
 
-/// What the paper says of a loans image but for dead names.
+/// The two numbers of word 0 of a loans image: "shift·2^16 + count".
+#[derive(Clone, Copy, Debug, PartialEq, Eq)]
+pub struct Head {
+    pub shift: u32,
+    pub count: usize,
+}
+
+impl Head {
+    pub fn word(self) -> u32 {
+        self.shift * 65_536 + self.count as u32
+    }
+}
+
+pub fn head_of(image: &[u32]) -> Head {
+    Head { shift: image[0] / 65_536, count: (image[0] % 65_536) as usize }
+}
+
+/// What the papers say of a loans image but for dead names.
 pub fn loans_in_order(image: &[u32]) -> bool {
-    let count = image[0] as usize;
-    if count > 1024 {
+    let Head { shift, count } = head_of(image);
+    if shift > 255 || count > 1024 {
         return false;
     }
     let (used, rest) = image[1..].split_at(count);
     used.windows(2).all(|pair| pair[0] < pair[1])
-        && used.iter().all(|&word| word < 1 << 24 && loan_of(word).right != 0)
+        && used.iter().all(|&word| loan_of(word).right != 0)
         && rest.iter().all(|&word| word == 0)
 }
 
 /// The loans in use of an image in order.
 pub fn loans_read(image: &[u32]) -> BTreeSet<Loan> {
-    let count = image[0] as usize;
-    image[1..=count].iter().map(|&word| loan_of(word)).collect()
+    image[1..=head_of(image).count].iter().map(|&word| loan_of(word)).collect()
 }
 
-fn loan_of(word: u32) -> Loan {
+pub fn loan_of(word: u32) -> Loan {
     Loan {
-        lender: word >> 18,
+        last: word >> 24,
+        lender: word >> 18 & 63,
         item: word >> 12 & 63,
         right: word >> 9 & 7,
         borrower: word >> 3 & 63,

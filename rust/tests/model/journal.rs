@@ -1,4 +1,4 @@
-//! The journal: what lives, the grants, the loans, and the table of answers.
+//! The journal: what lives, the grants, the loans, the present shift, and the table of answers.
 
 use std::collections::BTreeSet;
 
@@ -17,6 +17,15 @@ pub struct Loan {
     pub right: u32,
     pub borrower: u32,
     pub depth: u32,
+    /// The last shift; 0 is open-ended.
+    pub last: u32,
+}
+
+impl Loan {
+    /// Open-ended or not past its last shift.
+    pub fn carries_in(&self, shift: u32) -> bool {
+        self.last == 0 || shift <= self.last
+    }
 }
 
 #[derive(Clone, Copy, Debug, PartialEq, Eq)]
@@ -25,42 +34,59 @@ pub enum Command {
     Delete { by: u32, on: u32 },
     Allow { by: u32, to: u32, on: u32, right: u32, depth: u32 },
     Withdraw { by: u32, to: u32, on: u32, right: u32 },
-    Lend { by: u32, to: u32, on: u32, right: u32, depth: u32 },
-    Recall { by: u32, to: u32, on: u32, right: u32, depth: u32 },
+    Lend { by: u32, to: u32, on: u32, right: u32, depth: u32, last: u32 },
+    Recall { by: u32, to: u32, on: u32, right: u32, depth: u32, last: u32 },
+    Shift { by: u32, now: u32 },
 }
 
-/// The items, rights and depths that a command names.
+/// The items, right, depth and shift that a command names; 0 for what it has none of.
 struct Named {
     items: Vec<u32>,
     right: u32,
     depth: u32,
+    shift: u32,
 }
 
 impl Command {
     fn named(self) -> Named {
         match self {
             Command::Create { by, on } | Command::Delete { by, on } => {
-                Named { items: vec![by, on], right: 0, depth: 0 }
+                Named { items: vec![by, on], right: 0, depth: 0, shift: 0 }
             }
             Command::Withdraw { by, to, on, right } => {
-                Named { items: vec![by, to, on], right, depth: 0 }
+                Named { items: vec![by, to, on], right, depth: 0, shift: 0 }
             }
-            Command::Allow { by, to, on, right, depth }
-            | Command::Lend { by, to, on, right, depth }
-            | Command::Recall { by, to, on, right, depth } => {
-                Named { items: vec![by, to, on], right, depth }
+            Command::Allow { by, to, on, right, depth } => {
+                Named { items: vec![by, to, on], right, depth, shift: 0 }
             }
+            Command::Lend { by, to, on, right, depth, last }
+            | Command::Recall { by, to, on, right, depth, last } => {
+                Named { items: vec![by, to, on], right, depth, shift: last }
+            }
+            Command::Shift { by, now } => Named { items: vec![by], right: 0, depth: 0, shift: now },
         }
     }
 
-    /// An item above 63, right above 7 or depth above 7.
+    /// An item above 63, right above 7, depth above 7 or shift above 255.
     fn out_of_range(self) -> bool {
         let named = self.named();
-        named.items.iter().any(|&item| item > 63) || named.right > 7 || named.depth > 7
+        let items = named.items.iter().any(|&item| item > 63);
+        items || named.right > 7 || named.depth > 7 || named.shift > 255
     }
 
     fn by(self) -> u32 {
         self.named().items[0]
+    }
+
+    /// The loan that a lend or a recall is about.
+    pub fn loan(self) -> Option<Loan> {
+        match self {
+            Command::Lend { by, to, on, right, depth, last }
+            | Command::Recall { by, to, on, right, depth, last } => {
+                Some(Loan { lender: by, item: on, right, borrower: to, depth, last })
+            }
+            _ => None,
+        }
     }
 }
 
@@ -69,6 +95,8 @@ pub struct Journal {
     pub live: BTreeSet<u32>,
     pub grants: BTreeSet<Grant>,
     pub loans: BTreeSet<Loan>,
+    /// The present shift.
+    pub shift: u32,
 }
 
 impl Journal {
@@ -77,6 +105,7 @@ impl Journal {
             live: BTreeSet::from([0]),
             grants: BTreeSet::from([Grant { item: 0, right: 0, person: 0, depth: 0 }]),
             loans: BTreeSet::new(),
+            shift: 0,
         }
     }
 
@@ -89,8 +118,8 @@ impl Journal {
         number
     }
 
-    /// The table of answers from 3 on: the lowest number that applies.
-    fn answer(&self, command: Command) -> u32 {
+    /// The table of answers from 3 on: the first number that applies, in each command's order.
+    pub fn answer(&self, command: Command) -> u32 {
         if command.out_of_range() {
             return 3;
         }
@@ -103,10 +132,11 @@ impl Journal {
             Command::Allow { by, to, on, .. } | Command::Withdraw { by, to, on, .. } => {
                 self.answer_edit(by, to, on)
             }
-            Command::Lend { by, to, on, right, depth } => {
-                self.answer_lend(Loan { lender: by, item: on, right, borrower: to, depth })
+            Command::Lend { by, to, on, right, depth, last } => {
+                self.answer_lend(Loan { lender: by, item: on, right, borrower: to, depth, last })
             }
             Command::Recall { to, on, .. } => self.answer_named(to, on),
+            Command::Shift { by, now } => self.answer_shift(by, now),
         }
     }
 
@@ -152,8 +182,21 @@ impl Journal {
             number
         } else if loan.right == 0 {
             9
+        } else if loan.last != 0 && loan.last < self.shift {
+            13
         } else if self.loans.len() == 1024 && !self.loans.contains(&loan) {
             10
+        } else {
+            0
+        }
+    }
+
+    /// "needs edit on item 0"; 12 "after 8".
+    fn answer_shift(&self, by: u32, now: u32) -> u32 {
+        if !self.edits(by, 0) {
+            8
+        } else if now < self.shift && self.dated().next().is_some() {
+            12
         } else {
             0
         }
@@ -172,12 +215,13 @@ impl Journal {
             Command::Withdraw { to, on, right, .. } => {
                 self.grants.retain(|g| (g.person, g.item, g.right) != (to, on, right));
             }
-            Command::Lend { by, to, on, right, depth } => {
-                self.loans.insert(Loan { lender: by, item: on, right, borrower: to, depth });
+            Command::Lend { by, to, on, right, depth, last } => {
+                self.loans.insert(Loan { lender: by, item: on, right, borrower: to, depth, last });
             }
-            Command::Recall { by, to, on, right, depth } => {
-                self.loans.remove(&Loan { lender: by, item: on, right, borrower: to, depth });
+            Command::Recall { by, to, on, right, depth, last } => {
+                self.loans.remove(&Loan { lender: by, item: on, right, borrower: to, depth, last });
             }
+            Command::Shift { now, .. } => self.shift = now,
         }
     }
 
@@ -190,6 +234,11 @@ impl Journal {
 
     pub fn lives(&self, item: u32) -> bool {
         self.live.contains(&item)
+    }
+
+    /// The loans with a last shift, past ones too.
+    pub fn dated(&self) -> impl Iterator<Item = &Loan> {
+        self.loans.iter().filter(|loan| loan.last != 0)
     }
 
     /// An edit grant on an item is one of right 0 there, at any depth.
@@ -208,10 +257,11 @@ impl Journal {
         self.grants.range(at(0)..=at(7)).map(|g| g.depth)
     }
 
-    /// The depths of the loans of a lender to a borrower.
+    /// The depths of the carrying loans of a lender to a borrower.
     pub fn lent(&self, lender: u32, item: u32, right: u32, borrower: u32) -> Vec<u32> {
-        let at = |depth| Loan { lender, item, right, borrower, depth };
-        self.loans.range(at(0)..=at(7)).map(|l| l.depth).collect()
+        let at = |depth, last| Loan { lender, item, right, borrower, depth, last };
+        let loans = self.loans.range(at(0, 0)..=at(7, 255));
+        loans.filter(|l| l.carries_in(self.shift)).map(|l| l.depth).collect()
     }
 
     /// The persons with at least one grant, bit i for item i.

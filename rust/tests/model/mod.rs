@@ -1,5 +1,6 @@
-//! Document 01 once more, in plain Rust over sets. It shares no code with the engine; where the
-//! paper leaves a choice, it follows the readings in docs/DECISIONS.md.
+//! Document 01 once more, with request K1 of document 02, in plain Rust over sets. It shares no
+//! code with the engine; where the papers leave a choice, it follows the readings in
+//! docs/DECISIONS.md.
 #![allow(dead_code, unused_imports)]
 
 mod chains;
@@ -9,7 +10,7 @@ mod journal;
 
 pub use chains::Ending;
 pub use images::{
-    chain_journal, flat_journal, image_of, loans_image, loans_in_order, loans_read, word_of, Cell,
-    GrantLayout, Layout, ListLayout, Place, RowLayout,
+    chain_journal, flat_journal, head_of, image_of, loan_of, loans_image, loans_in_order,
+    loans_read, word_of, Cell, GrantLayout, Head, Layout, ListLayout, Place, RowLayout,
 };
 pub use journal::{Command, Grant, Journal, Loan};
