@@ -1,7 +1,7 @@
 /*
- * A nurse's question at the drawer. The nurse has a grant of depth 2 and lends it to a colleague, who lends it on to a relief carer.
- * May the relief carer open the drawer, and through whom? And after the nurse's grant is withdrawn? Last, a command that is refused:
- * the nurse may not edit the drawer.
+ * A nurse's question at the drawer. The nurse has a grant of depth 2 and lends it to a colleague, who lends it on to a relief carer,
+ * both with no last shift. May the relief carer open the drawer, and through whom? And after the nurse's grant is withdrawn? Last, a
+ * command that is refused: the nurse may not edit the drawer.
  *
  * Each call is written on a line: the command with its arguments, then the number that it returned and its text. A check that is not
  * refused has yes or no there; yes comes with the depth and the persons of the chain.
@@ -13,6 +13,7 @@
 
 enum { ROOT = 0, NURSE = 3, COLLEAGUE = 4, RELIEF_CARER = 5, DRAWER = 9 };
 enum { OPEN = 1 };
+enum { OPEN_ENDED = 0 };
 
 static uint8_t grants[RIGHTS_GRANTS_BYTES];
 static uint32_t loans[RIGHTS_LOANS_WORDS];
@@ -50,11 +51,11 @@ static void allow(uint32_t by, uint32_t to, uint32_t on, uint32_t right, uint32_
     show_number(number);
 }
 
-static void lend(uint32_t by, uint32_t to, uint32_t on, uint32_t right, uint32_t depth)
+static void lend(uint32_t by, uint32_t to, uint32_t on, uint32_t right, uint32_t depth, uint32_t last)
 {
-    uint32_t number = rights_chains_lend(grants, RIGHTS_GRANTS_BYTES, loans, RIGHTS_LOANS_WORDS, by, to, on, right, depth);
+    uint32_t number = rights_chains_lend(grants, RIGHTS_GRANTS_BYTES, loans, RIGHTS_LOANS_WORDS, by, to, on, right, depth, last);
     show("lend", by, to, on, right);
-    printf(" depth=%" PRIu32, depth);
+    printf(" depth=%" PRIu32 " last=%" PRIu32, depth, last);
     show_number(number);
 }
 
@@ -101,8 +102,8 @@ int main(void)
     create(ROOT, RELIEF_CARER);
     create(ROOT, DRAWER);
     allow(ROOT, NURSE, DRAWER, OPEN, 2);
-    lend(NURSE, COLLEAGUE, DRAWER, OPEN, 1);
-    lend(COLLEAGUE, RELIEF_CARER, DRAWER, OPEN, 0);
+    lend(NURSE, COLLEAGUE, DRAWER, OPEN, 1, OPEN_ENDED);
+    lend(COLLEAGUE, RELIEF_CARER, DRAWER, OPEN, 0, OPEN_ENDED);
     check(RELIEF_CARER, DRAWER, OPEN);
     withdraw(ROOT, NURSE, DRAWER, OPEN);
     check(RELIEF_CARER, DRAWER, OPEN);

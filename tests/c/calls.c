@@ -7,9 +7,12 @@
 
 #include "rights.h"
 
-/* No two numbers of a call are the same: by, to, on, right, depth. A call with any two exchanged is refused or changes another place. */
+/*
+ * No two numbers of a call are the same: by, to, on, right, depth, last. A call with any two exchanged is refused or changes another
+ * place.
+ */
 enum { ROOT = 0, OWNER = 5, HOLDER = 11, BORROWER = 47, DRAWER = 23, DEAD = 60 };
-enum { RIGHT = 3, DEPTH = 6, LOAN_DEPTH = 2 };
+enum { RIGHT = 3, DEPTH = 6, LOAN_DEPTH = 2, LAST = 200 };
 enum { LISTS_SIZE = 8 * RIGHTS_LISTS_WORDS, LOANS_SIZE = 4 * RIGHTS_LOANS_WORDS };
 
 /* What the engine is lent, and beside it what that must hold. */
@@ -79,9 +82,9 @@ static void grants_grant(unsigned person, unsigned on, unsigned right, unsigned 
     byte_bit(grants_due, 8 + 512 * on + 64 * right + person, depth, stands);
 }
 
-static uint32_t loan(uint32_t lender, uint32_t on, uint32_t right, uint32_t borrower, uint32_t depth)
+static uint32_t loan(uint32_t last, uint32_t lender, uint32_t on, uint32_t right, uint32_t borrower, uint32_t depth)
 {
-    return lender * 262144 + on * 4096 + right * 512 + borrower * 8 + depth;
+    return last * 16777216 + lender * 262144 + on * 4096 + right * 512 + borrower * 8 + depth;
 }
 
 /* ---- lists and rows: the same calls, each unit with its buffer L, its length N and what it must hold */
@@ -198,16 +201,19 @@ static void chains_grants(void)
     returned("chains allow", rights_chains_allow(UNIT, OWNER, HOLDER, DRAWER, RIGHT, 1), 0);
 }
 
+/* The loan with a last shift is the greater, though its lender is the less. */
 static void chains_loans(void)
 {
     loans_due[0] = 1;
-    loans_due[1] = loan(HOLDER, DRAWER, RIGHT, BORROWER, LOAN_DEPTH);
-    returned("chains lend", rights_chains_lend(UNIT, HOLDER, BORROWER, DRAWER, RIGHT, LOAN_DEPTH), 0);
+    loans_due[1] = loan(LAST, HOLDER, DRAWER, RIGHT, BORROWER, LOAN_DEPTH);
+    returned("chains lend", rights_chains_lend(UNIT, HOLDER, BORROWER, DRAWER, RIGHT, LOAN_DEPTH, LAST), 0);
     loans_due[0] = 2;
-    loans_due[2] = loan(BORROWER, DRAWER, RIGHT, OWNER, 4);
-    returned("chains lend", rights_chains_lend(UNIT, BORROWER, OWNER, DRAWER, RIGHT, 4), 0);
-    returned("chains lend, right 0", rights_chains_lend(UNIT, BORROWER, OWNER, DRAWER, 0, 4), 9);
-    returned("chains recall, another depth", rights_chains_recall(UNIT, HOLDER, BORROWER, DRAWER, RIGHT, 1), 0);
+    loans_due[2] = loans_due[1];
+    loans_due[1] = loan(0, BORROWER, DRAWER, RIGHT, OWNER, 4);
+    returned("chains lend", rights_chains_lend(UNIT, BORROWER, OWNER, DRAWER, RIGHT, 4, 0), 0);
+    returned("chains lend, right 0", rights_chains_lend(UNIT, BORROWER, OWNER, DRAWER, 0, 4, LAST), 9);
+    returned("chains recall, another depth", rights_chains_recall(UNIT, HOLDER, BORROWER, DRAWER, RIGHT, 1, LAST), 0);
+    returned("chains recall, another last", rights_chains_recall(UNIT, HOLDER, BORROWER, DRAWER, RIGHT, LOAN_DEPTH, 0), 0);
 }
 
 /* A check of the chain unit: its number, the depth, the number of persons and the buffer's 8 bytes. */
@@ -222,16 +228,64 @@ static void chains_check(const char *call, uint32_t who, uint32_t depth_due, uin
     same_bytes(call, "the chain", chain, chain_due, sizeof chain);
 }
 
+static const uint8_t through[RIGHTS_CHAIN_PERSONS] = {HOLDER, BORROWER, OWNER, 255, 255, 255, 255, 255};
+static const uint8_t nobody[RIGHTS_CHAIN_PERSONS] = {255, 255, 255, 255, 255, 255, 255, 255};
+
 static void chains_answers(void)
 {
-    static const uint8_t through[RIGHTS_CHAIN_PERSONS] = {HOLDER, BORROWER, OWNER, 255, 255, 255, 255, 255};
-    static const uint8_t nobody[RIGHTS_CHAIN_PERSONS] = {255, 255, 255, 255, 255, 255, 255, 255};
     chains_check("chains check", OWNER, 1, 3, through);
     chains_check("chains check, no", ROOT, 0, 0, nobody);
     returned("chains inspect", rights_chains_inspect(UNIT), 0);
     loans[0] = loans_due[0] = 1;
     returned("chains inspect, one loan uncounted", rights_chains_inspect(UNIT), 2);
     loans[0] = loans_due[0] = 2;
+}
+
+/* A shift that is accepted: word 0 has it beside the count. */
+static void chains_shift(uint32_t now)
+{
+    loans_due[0] = now * 65536 + 2;
+    returned("chains shift", rights_chains_shift(UNIT, ROOT, now), 0);
+}
+
+/* The holder's loan carries in its last shift, and in the next no longer; from then on it is past. */
+static void chains_shifts(void)
+{
+    chains_shift(LAST);
+    chains_check("chains check, in the last shift", OWNER, 1, 3, through);
+    chains_shift(LAST);
+    returned("chains shift, one back", rights_chains_shift(UNIT, ROOT, LAST - 1), 12);
+    returned("chains lend, for the shift before", rights_chains_lend(UNIT, BORROWER, ROOT, DRAWER, RIGHT, 4, LAST - 1), 13);
+    returned("chains lend, a standing loan", rights_chains_lend(UNIT, HOLDER, BORROWER, DRAWER, RIGHT, LOAN_DEPTH, LAST), 0);
+    chains_shift(LAST + 1);
+    chains_check("chains check, after the last shift", OWNER, 0, 0, nobody);
+    returned("chains lend, a past loan", rights_chains_lend(UNIT, HOLDER, BORROWER, DRAWER, RIGHT, LOAN_DEPTH, LAST), 13);
+    returned("chains shift, one back", rights_chains_shift(UNIT, ROOT, LAST), 12);
+    returned("chains shift, without edit on item 0", rights_chains_shift(UNIT, HOLDER, LAST), 8);
+    returned("chains shift, by a dead item", rights_chains_shift(UNIT, DEAD, LAST), 4);
+}
+
+#define BEYOND (RIGHTS_SHIFT_MAX + 1)
+
+/* The greatest shift, and the first beyond it. */
+static void chains_shift_limits(void)
+{
+    returned("chains shift, 256", rights_chains_shift(UNIT, ROOT, BEYOND), 3);
+    returned("chains shift, 4294967295", rights_chains_shift(UNIT, ROOT, UINT32_MAX), 3);
+    returned("chains lend, last 256", rights_chains_lend(UNIT, HOLDER, BORROWER, DRAWER, RIGHT, LOAN_DEPTH, BEYOND), 3);
+    returned("chains recall, last 256", rights_chains_recall(UNIT, HOLDER, BORROWER, DRAWER, RIGHT, LOAN_DEPTH, BEYOND), 3);
+    chains_shift(RIGHTS_SHIFT_MAX);
+    returned("chains inspect, shift 255", rights_chains_inspect(UNIT), 0);
+    loans_due[0]++;
+    loans_due[3] = loan(RIGHTS_SHIFT_MAX, OWNER, DRAWER, RIGHT, HOLDER, 4);
+    returned("chains lend, last 255", rights_chains_lend(UNIT, OWNER, HOLDER, DRAWER, RIGHT, 4, RIGHTS_SHIFT_MAX), 0);
+    loans_due[0]--;
+    loans_due[3] = 0;
+    returned("chains recall, last 255", rights_chains_recall(UNIT, OWNER, HOLDER, DRAWER, RIGHT, 4, RIGHTS_SHIFT_MAX), 0);
+    loans[0] = loans_due[0] = BEYOND * 65536 + 2;
+    returned("chains inspect, shift 256", rights_chains_inspect(UNIT), 2);
+    returned("chains shift, from 256", rights_chains_shift(UNIT, ROOT, RIGHTS_SHIFT_MAX), 2);
+    loans[0] = loans_due[0] = RIGHTS_SHIFT_MAX * 65536 + 2;
 }
 
 static void chains_refused_check(uint32_t right, size_t bytes, size_t words, size_t persons_max, uint32_t due)
@@ -261,8 +315,9 @@ static void chains_refusals(void)
     returned("chains delete, length", rights_chains_delete(SHORT, OWNER, DRAWER), 1); \
     returned("chains allow, length", rights_chains_allow(SHORT, OWNER, HOLDER, DRAWER, RIGHT, DEPTH), 1); \
     returned("chains withdraw, length", rights_chains_withdraw(SHORT, OWNER, HOLDER, DRAWER, RIGHT), 1); \
-    returned("chains lend, length", rights_chains_lend(SHORT, HOLDER, BORROWER, DRAWER, RIGHT, DEPTH), 1); \
-    returned("chains recall, length", rights_chains_recall(SHORT, HOLDER, BORROWER, DRAWER, RIGHT, LOAN_DEPTH), 1); \
+    returned("chains lend, length", rights_chains_lend(SHORT, HOLDER, BORROWER, DRAWER, RIGHT, DEPTH, LAST), 1); \
+    returned("chains recall, length", rights_chains_recall(SHORT, HOLDER, BORROWER, DRAWER, RIGHT, LOAN_DEPTH, LAST), 1); \
+    returned("chains shift, length", rights_chains_shift(SHORT, ROOT, RIGHTS_SHIFT_MAX), 1); \
     returned("chains inspect, length", rights_chains_inspect(SHORT), 1);
 
 static void chains_lengths(void)
@@ -271,18 +326,21 @@ static void chains_lengths(void)
     REFUSED_LENGTHS(SHORT_LOANS)
 }
 
+/* The past loan is recalled; no other has a last shift, so the shift may go back. */
 static void chains_endings(void)
 {
-    loans_due[0] = 1;
-    loans_due[1] = loans_due[2];
+    loans_due[0]--;
     loans_due[2] = 0;
-    returned("chains recall", rights_chains_recall(UNIT, HOLDER, BORROWER, DRAWER, RIGHT, LOAN_DEPTH), 0);
+    returned("chains recall", rights_chains_recall(UNIT, HOLDER, BORROWER, DRAWER, RIGHT, LOAN_DEPTH, LAST), 0);
+    loans_due[0] = (LAST - 1) * 65536 + 1;
+    returned("chains shift, back", rights_chains_shift(UNIT, ROOT, LAST - 1), 0);
     grants_grant(HOLDER, DRAWER, RIGHT, DEPTH, 0);
     grants_grant(HOLDER, DRAWER, RIGHT, 1, 0);
     returned("chains withdraw", rights_chains_withdraw(UNIT, OWNER, HOLDER, DRAWER, RIGHT), 0);
     grants_grant(OWNER, DRAWER, 0, 0, 0);
     grants_item(DRAWER, 0);
-    loans_due[0] = loans_due[1] = 0;
+    loans_due[0]--;
+    loans_due[1] = 0;
     returned("chains delete", rights_chains_delete(UNIT, OWNER, DRAWER), 0);
 }
 
@@ -297,9 +355,9 @@ static void engine(void)
 /* Every number has a text of its own, and every other number the same one. */
 static void texts(void)
 {
-    const char *other = rights_text(RIGHTS_MALFORMED + 1);
+    const char *other = rights_text(RIGHTS_LAST_PAST + 1);
     same("text", "that of 4294967295 for no number", (uint64_t)strcmp(rights_text(UINT32_MAX), other), 0);
-    for (uint32_t n = RIGHTS_DONE; n <= RIGHTS_MALFORMED; n++) {
+    for (uint32_t n = RIGHTS_DONE; n <= RIGHTS_LAST_PAST; n++) {
         same("text", "one of no letters", strlen(rights_text(n)) == 0, 0);
         same("text", "that of no number", strcmp(rights_text(n), other) == 0, 0);
         for (uint32_t m = RIGHTS_DONE; m < n; m++)
@@ -323,6 +381,8 @@ int main(void)
     chains_grants();
     chains_loans();
     chains_answers();
+    chains_shifts();
+    chains_shift_limits();
     chains_refusals();
     chains_lengths();
     chains_endings();

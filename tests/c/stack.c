@@ -1,7 +1,7 @@
 /*
  * The greatest stack use of each function of rights.h: each call runs on a stack of its own that was painted before, and what it
- * painted over is counted, down from the frame of its caller. Every call is made on a fresh unit, on full tables, and refused. Fails
- * where a call used more than RIGHTS_STACK_BYTES.
+ * painted over is counted, down from the frame of its caller. Every call is made on a fresh unit, on full tables in several shifts, and
+ * refused. Fails where a call used more than RIGHTS_STACK_BYTES.
  */
 #define _XOPEN_SOURCE 700
 #include <stdio.h>
@@ -12,7 +12,7 @@
 #include "rights.h"
 
 enum { STACK = 64 * 1024, PAINT = 0xa5 };
-enum { LENDER = 3, DRAWER = 9, RIGHT = 1, DEAD = 60 };
+enum { LENDER = 3, DRAWER = 9, RIGHT = 1, DEAD = 60, LAST = 4 };
 
 static unsigned char stack[STACK];
 static ucontext_t here, there;
@@ -60,8 +60,9 @@ CALL(chains_create, UNIT, 0, DEAD)
 CALL(chains_delete, UNIT, 0, DEAD)
 CALL(chains_allow, UNIT, 0, LENDER, DRAWER, RIGHT, 7)
 CALL(chains_withdraw, UNIT, 0, LENDER, DRAWER, RIGHT)
-CALL(chains_lend, UNIT, LENDER, 0, DRAWER, RIGHT, 7)
-CALL(chains_recall, UNIT, LENDER, 0, DRAWER, RIGHT, 7)
+CALL(chains_lend, UNIT, LENDER, 0, DRAWER, RIGHT, 7, LAST)
+CALL(chains_recall, UNIT, LENDER, 0, DRAWER, RIGHT, 7, LAST)
+CALL(chains_shift, UNIT, 0, LAST)
 CALL(chains_check, UNIT, 0, DRAWER, RIGHT, chain, RIGHTS_CHAIN_PERSONS, &depth, &persons)
 CALL(chains_inspect, UNIT)
 CALL(version, )
@@ -79,7 +80,7 @@ static const struct {
     {"rows_to_lists", rows_to_lists}, {"lists_fresh", lists_fresh}, {"rows_fresh", rows_fresh}, {"chains_inspect", chains_inspect},
     {"chains_check", chains_check}, {"chains_allow", chains_allow}, {"chains_lend", chains_lend}, {"chains_recall", chains_recall},
     {"chains_create", chains_create}, {"chains_delete", chains_delete}, {"chains_withdraw", chains_withdraw},
-    {"chains_fresh", chains_fresh}, {"version", version}, {"layout_date", layout_date},
+    {"chains_shift", chains_shift}, {"chains_fresh", chains_fresh}, {"version", version}, {"layout_date", layout_date},
 };
 enum { CALLS = sizeof calls / sizeof calls[0] };
 
@@ -124,8 +125,11 @@ static void make_fresh(void)
     must(rights_chains_fresh(UNIT));
 }
 
-/* Every item but one lives, every person has the right on the item, and so many loans of that item and right stand. */
-static void make_full(uint32_t many)
+/*
+ * Every item but one lives, every person has the right on the item, and so many loans of that item and right stand, open-ended or with
+ * last shift 1 to 4: past ones among them where the present shift is later.
+ */
+static void make_full(uint32_t many, uint32_t now)
 {
     make_fresh();
     for (uint32_t on = 1; on < 64; on++) {
@@ -141,7 +145,8 @@ static void make_full(uint32_t many)
         must(rights_chains_allow(UNIT, 0, to, DRAWER, RIGHT, to % 8));
     }
     for (uint32_t n = 0; n < many; n++)
-        must(rights_chains_lend(UNIT, n % 59 + 1, n / 59 + 1, DRAWER, RIGHT, n % 8));
+        must(rights_chains_lend(UNIT, n % 59 + 1, n / 59 + 1, DRAWER, RIGHT, n % 8, n % (LAST + 1)));
+    must(rights_chains_shift(UNIT, 0, now));
 }
 
 /* No image is in order. */
@@ -156,11 +161,13 @@ static void make_damaged(void)
 int main(void)
 {
     static const uint32_t loans_of_key[] = {0, 1, 16, 63, 64, 65, 200, 1023, 1024};
+    static const uint32_t shifts[] = {0, 3, LAST + 1};
+    enum { SHIFTS = sizeof shifts / sizeof shifts[0] };
     unsigned most = 0;
     make_fresh();
     measure();
-    for (unsigned k = 0; k < sizeof loans_of_key / sizeof loans_of_key[0]; k++) {
-        make_full(loans_of_key[k]);
+    for (unsigned k = 0; k < SHIFTS * (sizeof loans_of_key / sizeof loans_of_key[0]); k++) {
+        make_full(loans_of_key[k / SHIFTS], shifts[k % SHIFTS]);
         measure();
     }
     make_damaged();
