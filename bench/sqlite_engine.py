@@ -1,8 +1,8 @@
 #!/usr/bin/env python3
 """The program as an SQLite engine: the state in tables, the chain check as a recursive query.
 
-Reads document 01's command lines from standard input and writes the program's output. Lists and rows are answered from
-the same table of grants.
+Reads document 01's command lines from standard input, with last=0 for loans, and writes the program's output. Lists and
+rows are answered from the same table of grants. Every loan is taken as open-ended.
 """
 
 import re
@@ -42,11 +42,11 @@ FIELDS = {
     "delete": ("by", "on"),
     "allow": ("by", "to", "on", "right", "depth"),
     "withdraw": ("by", "to", "on", "right"),
-    "lend": ("by", "to", "on", "right", "depth"),
-    "recall": ("by", "to", "on", "right", "depth"),
+    "lend": ("by", "to", "on", "right", "depth", "last"),
+    "recall": ("by", "to", "on", "right", "depth", "last"),
     "check": ("who", "on", "right"),
 }
-LIMITS = {"by": 63, "to": 63, "on": 63, "who": 63, "right": 7, "depth": 7}
+LIMITS = {"by": 63, "to": 63, "on": 63, "who": 63, "right": 7, "depth": 7, "last": 255}
 LOANS_MAX = 1024
 THIS_LOAN = "item = :on AND right = :right AND lender = :by AND borrower = :to AND depth = :depth"
 

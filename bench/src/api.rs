@@ -3,12 +3,12 @@
 pub use rights::{
     ALREADY_LIVE, BY_DEAD, CHAIN_PERSONS, DEPTH_MAX, DONE, EDIT_RIGHT, FULL, GRANTS_BYTES, ITEM_MAX, LISTS_WORDS,
     LOANS_MAX, LOANS_WORDS, NAMED_DEAD, NOT_IN_ORDER, NO_EDIT, OUT_OF_RANGE, RIGHT_MAX, ROOT_ITEM, ROWS_BYTES,
-    WRONG_LENGTH,
+    SHIFT_MAX, WRONG_LENGTH,
 };
 
 pub const NO_PERSON: u8 = rights::NO_PERSON as u8;
 
-/// The arguments of allow, lend and recall; withdraw leaves the depth aside.
+/// The arguments of allow, lend and recall; withdraw leaves the depth aside. Every loan is open-ended.
 #[derive(Clone, Copy, Debug)]
 pub struct Grant {
     pub by: u32,

@@ -30,8 +30,8 @@ const CHAINS: Chains = Chains {
     delete: chains::delete,
     allow: |grants, loans, g| chains::allow(grants, loans, g.by, g.to, g.on, g.right, g.depth),
     withdraw: |grants, loans, g| chains::withdraw(grants, loans, g.by, g.to, g.on, g.right),
-    lend: |grants, loans, g| chains::lend(grants, loans, g.by, g.to, g.on, g.right, g.depth),
-    recall: |grants, loans, g| chains::recall(grants, loans, g.by, g.to, g.on, g.right, g.depth),
+    lend: |grants, loans, g| chains::lend(grants, loans, g.by, g.to, g.on, g.right, g.depth, 0),
+    recall: |grants, loans, g| chains::recall(grants, loans, g.by, g.to, g.on, g.right, g.depth, 0),
     check: |grants, loans, q, chain| {
         let checked = chains::check(grants, loans, q.who, q.on, q.right, chain);
         Found { number: checked.number, depth: checked.depth, persons: checked.persons }

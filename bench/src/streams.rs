@@ -28,8 +28,8 @@ impl Line {
             Line::Delete(by, on) => format!("do=delete by={by} on={on}"),
             Line::Allow(g) => grant_text("allow", g),
             Line::Withdraw(g) => format!("do=withdraw by={} to={} on={} right={}", g.by, g.to, g.on, g.right),
-            Line::Lend(g) => grant_text("lend", g),
-            Line::Recall(g) => grant_text("recall", g),
+            Line::Lend(g) => grant_text("lend", g) + " last=0",
+            Line::Recall(g) => grant_text("recall", g) + " last=0",
             Line::Check(q) => format!("do=check who={} on={} right={}", q.who, q.on, q.right),
             Line::Malformed(text) => text.to_string(),
         }
@@ -121,7 +121,7 @@ const WRONG: [&str; 10] = [
     "do=check who=4294967296 on=9 right=1",
     "do=allow by=0 to=3 on=9 right=1",
     "do=close by=0 on=3",
-    "do=lend by=12345678901 to=4 on=9 right=1 depth=0",
+    "do=lend by=12345678901 to=4 on=9 right=1 depth=0 last=0",
 ];
 
 pub fn malformed(count: usize) -> Vec<Line> {

@@ -69,7 +69,7 @@ fn try_lend(unit: &mut Chains, g: Grant) -> Answer {
     require(g.right != 0, EDIT_RIGHT)?;
     let loan = loans::code(g.by, g.on, g.right, g.to, g.depth);
     if let Err(place) = loans::find(unit.loans, loan) {
-        require(unit.loans[0] < LOANS_MAX, FULL)?;
+        require(loans::count(unit.loans) < LOANS_MAX as usize, FULL)?;
         loans::insert(unit.loans, place, loan);
     }
     Ok(())

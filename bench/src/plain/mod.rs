@@ -1,5 +1,5 @@
-//! The engine once more, in plain safe Rust: the same images, the same checks in the same order, the same answers.
-//! It is what the proved engine is measured against.
+//! The engine once more, in plain safe Rust: the same images, the same checks in the same order, the same answers, for
+//! loans that are open-ended. It is what the proved engine is measured against.
 
 pub mod chains;
 pub mod convert;
