@@ -24,7 +24,7 @@ use Rattle.layouts.specs.declared.admit.CheckAdmission.the-variants as check
 use Rattle.layouts.specs.Admission.{commandAdmission, checkAdmission}
 use Rattle.layouts.specs.Live.{masksOf}
 use Rattle.layouts.specs.Layouts.{grantBytes, grantCells, liveIn, held, inOrder, freshImage, freshOf}
-use Rattle.delegation.specs.Loans.{wordOf, cut, wordDated, loanWords, countOf, shiftIn, used, freshHeader, loansImage, loansInOrder}
+use Rattle.delegation.specs.Loans.{wordOf, cut, wordDated, rising, loanWords, countOf, shiftIn, used, freshHeader, loansImage, loansInOrder}
 use Rattle.delegation.specs.Images.{Images, images}
 use Rattle.delegation.specs.ChainUnit.{chainUnit, chainInOrder, chainSized, chainGuarded, chainFacts, chainFresh, ChainFreshens, ChainInspects}
 use Rattle.bits.proofs.Sets.{fst, snd}
@@ -119,14 +119,16 @@ ready s c order e t h =
     record { grants = p .0; loans = p .1; ordered = p .3; ranged = m .1 }
 
 -- ---- a check
--- images in order are at a shift within its limit, and hold at most 1,024 loans
-pub counted : (s : Images) → chainInOrder s ≡ true → (shiftIn (s .loans) ≤ 255) × (countOf (s .loans) ≤ mostLoans)
+-- images in order are at a shift within its limit, and hold at most 1,024 loans, which rise
+pub counted : (s : Images) → chainInOrder s ≡ true
+    → (shiftIn (s .loans) ≤ 255) × (countOf (s .loans) ≤ mostLoans) × (rising (used (s .loans)) ≡ true)
 unfolding loansInOrder
 counted s e =
     let k = snd (inOrder grantBytes (s .grants)) (loansInOrder (liveIn grantBytes (s .grants)) (s .loans)) e in
     let a : shifts (shiftIn (s .loans)) ≡ true = search (fst, snd) in
     let b : leb (countOf (s .loans)) mostLoans ≡ true = search (fst, snd) in
-    (leb-true _ _ a, leb-true _ _ b)
+    let c : rising (used (s .loans)) ≡ true = search (fst, snd) in
+    (leb-true _ _ a, leb-true _ _ b, c)
 
 pub in-shape : (s : Images) (buffer : List ℕ) (p o r : ℕ) (order : Answer) → numberOf order ≡ chainGuarded s (eqb (length buffer) 8) 0
     → (x y : Item) (z : Right) → check.Ready x y z ≡ checkAdmission order p o r
@@ -139,6 +141,7 @@ in-shape s buffer p o r order e x y z h =
       grants = q .0;
       loans = q .1;
       shift = counted s (q .3) .0;
+      rises = counted s (q .3) .2;
       count = counted s (q .3) .1;
       person = omega arith;
       item = omega arith;

@@ -4,16 +4,16 @@ use mathlib.Core.Bool.{Bool, true, false, not, _||_, cond, false≢true}
 use mathlib.Core.List.{List, [], _∷_, _++_}
 use Prim.Native.Nat.{ℕ, zero, suc, _+_, _-_, _*_, _/_, _%_, _≤_, _<_}
 use native.Mathlib.Omega.{arith}
-use borrow.Author.Tests.{eqb-true, eq-eqb, leb-true, le-leb, not-true}
+use borrow.Author.Tests.{eqb-true, eq-eqb, ne-eqb, leb-true, le-leb, lt-leb, not-true}
 use lib.ListN.{length, getD, drop, replicate, length-append, length-replicate, take, length-drop, take-append-drop}
 use lib.Seq.{take-at, drop-at, length-take-le}
-use lib.Dec.{eqb}
+use lib.Dec.{eqb, leb}
 use Rattle.bits.specs.Sets.{any, all, keep, add}
 use Rattle.model.specs.Commands.{mostLoans}
-use Rattle.model.specs.Journal.{Loan, loan, sameLoan, loanNames}
+use Rattle.model.specs.Journal.{Loan, loan, sameLoan, loanNames, carries}
 use Rattle.delegation.specs.Loans.{lastShift, lender, loanItem, loanRight, borrower, loanDepth, wordNames, wordOf, loanOf, rising, insert, loanWords, headerOf, headerWord, recounted, movedTo, headerIn, loansImage, loansWith, loansKept, loansAt, used, wordGood, loansInOrder, countOf, shiftIn}
 use Rattle.delegation.specs.declared.loan.Header.{Header}
-use Rattle.bits.proofs.Sets.{iff, fst, snd, both, any-cong}
+use Rattle.bits.proofs.Sets.{iff, fst, snd, both, or-left, or-right, any-cong}
 use Rattle.model.proofs.Invariant.{same-loan, loan-self}
 use Rattle.model.specs.Invariant.{rangedLoan, distinct}
 use Rattle.delegation.proofs.Rising.{any-insert, all-insert, rising-insert, insert-present, length-insert, keep-insert}
@@ -51,6 +51,22 @@ wordOf-lt l h = omega (arith, loan-le l h)
 pub open-word : (l : Loan) → l .last ≡ 0 → wordOf l ≡ l .lender * 262144 + l .item * 4096 + l .right * 512 + l .borrower * 8 + l .depth
 unfolding wordOf
 open-word l e = omega arith
+
+-- ---- a word's place in the rising order tells whether its loan carries: the last shift is on top
+-- the open-ended lie below the least word with a last shift
+pub carries-open : (now w : ℕ) → w < 16777216 → carries now (lastShift w) ≡ true
+unfolding carries
+carries-open now w h = or-left (eqb (lastShift w) 0) (leb now (lastShift w)) (eq-eqb (lastShift w) 0 (omega arith))
+
+-- from the least with the present shift on all carry
+pub carries-later : (now w : ℕ) → now * 16777216 ≤ w → w < 4294967296 → carries now (lastShift w) ≡ true
+unfolding carries
+carries-later now w h k = or-right (eqb (lastShift w) 0) (leb now (lastShift w)) (le-leb now (lastShift w) (omega arith))
+
+-- and none between
+pub carries-not : (now w : ℕ) → now ≤ 255 → 16777216 ≤ w → w < now * 16777216 → carries now (lastShift w) ≡ false
+unfolding carries
+carries-not now w n h k = rw (ne-eqb (lastShift w) 0 (λ (z : lastShift w ≡ 0). omega arith), lt-leb now (lastShift w) (omega arith))
 
 -- equal words are of equal loans
 pub word-same : (l m : Loan) → rangedLoan l ≡ true → rangedLoan m ≡ true → eqb (wordOf l) (wordOf m) ≡ sameLoan l m

@@ -9,7 +9,7 @@ use model::RightRead;
 use model::Shift;
 use model::ShiftRead;
 ghost use mathlib.Core.Path.{_≡_};
-ghost use Prim.Native.Nat.{_%_};
+ghost use Prim.Native.Nat.{_*_, _%_};
 ghost use Rattle.model.specs.Journal.{loan, carries};
 ghost use Rattle.delegation.specs.Loans.{wordOf, cut, lastShift, lender, loanItem, loanRight, borrower, loanDepth, keyOf, keyFor, headerOf, headerWord, recounted, movedTo, freshHeader};
 
@@ -77,6 +77,16 @@ pub fn word(lender: Item, on: Item, right: Right, borrower: Item, depth: Depth, 
     let of = last.number() % 256 * 16777216 + lender.number() % 64 * 262144;
     let of = of + on.number() % 64 * 4096 + right.number() % 8 * 512;
     of + borrower.number() % 64 * 8 + depth.number() % 8
+}
+
+// The least word of a loan with a last shift: those of open-ended loans lie below it.
+pub const DATED: u32 = 16777216;
+
+// The least word of a loan with that last shift, which is cut to its range.
+pub fn least(last: Shift) -> u32
+    ensures { λ r. ⌜ r ≡ last .0 % 256 * 16777216 ⌝ }
+{
+    last.number() % 256 * 16777216
 }
 
 // Whether a loan with that last shift carries at shift now.

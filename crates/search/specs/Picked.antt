@@ -1,13 +1,24 @@
--- The m loans of the key that carry, among the first i and in their order, stand at the front.
+-- What the pick of loans does: the loans of a key among some words are put behind those picked before. And how many words lie below one.
 use mathlib.Core.Path.{_≡_}
-use mathlib.Core.List.{List}
-use Prim.Native.Nat.{ℕ, _≤_}
-use lib.ListN.{length, take}
+use mathlib.Core.Bool.{Bool}
+use mathlib.Core.List.{List, _++_}
+use Prim.Native.Nat.{ℕ, _+_, _≤_, _<_}
+use lib.Dec.{eqb}
+use lib.ListN.{length, take, getD}
 use Rattle.bits.specs.Sets.{keep}
-use Rattle.delegation.specs.Search.{picks}
+use Rattle.delegation.specs.Loans.{keyOf}
 
--- out holds them, m in number
-pub record Picked (loans : List ℕ) (shift key i m : ℕ) (out : List ℕ) : Type 0 where
-  pub within : i ≤ length loans
-  pub count : m ≤ i
-  pub are : take m out ≡ keep (picks shift key) (take i loans)
+-- a loan of the key
+abbrev pub ofKey : ℕ → ℕ → Bool
+ofKey key w = eqb (keyOf w) key
+
+-- behind the first m of out stand the loans of the key among these words, in their order: r in all
+pub record Appended (out : List ℕ) (m : ℕ) (words : List ℕ) (key r : ℕ) (after : List ℕ) : Type 0 where
+  pub count : r ≤ m + length words
+  pub are : take r after ≡ take m out ++ keep (ofKey key) words
+
+-- the first r words, and no later one, lie below x
+pub record Below (words : List ℕ) (x r : ℕ) : Type 0 where
+  pub within : r ≤ length words
+  pub low : (i : ℕ) → i < r → getD words i 0 < x
+  pub high : (i : ℕ) → r ≤ i → i < length words → x ≤ getD words i 0

@@ -10,8 +10,8 @@ use model::Item;
 use model::Right;
 use model::Shift;
 ghost use mathlib.Core.Path.{_≡_};
-ghost use mathlib.Core.Bool.{cond};
-ghost use mathlib.Core.List.{_++_};
+ghost use mathlib.Core.Bool.{true, cond};
+ghost use mathlib.Core.List.{[], _++_};
 ghost use Prim.Native.Nat.{ℕ, _+_, _-_, _*_, _%_, _≤_, _<_, max};
 ghost use lib.Dec.{eqb, ltb};
 ghost use lib.ListN.{length, getD, set, take, replicate};
@@ -19,11 +19,11 @@ ghost use Rattle.bits.specs.Sets.{keep, tabulate, most, firstAt};
 ghost use Rattle.model.specs.Commands.{mostLoans};
 ghost use Rattle.model.specs.Answers.{foundSaid};
 ghost use Rattle.layouts.specs.Layouts.{grantCells};
-ghost use Rattle.delegation.specs.Loans.{keyOf, loanWords, countOf, shiftIn, lender, borrower};
+ghost use Rattle.delegation.specs.Loans.{keyOf, rising, loanWords, countOf, shiftIn, used, lender, borrower};
 ghost use Rattle.delegation.specs.Search.{picks, gain, arrive, grantRound, nextRound, roundAt, column, lenderTo, traced, foundOf, chainOf};
 ghost use Rattle.search.specs.InShape.{InShape};
 ghost use Rattle.search.specs.Entry.{entryFound};
-ghost use Rattle.search.specs.Picked.{Picked};
+ghost use Rattle.search.specs.Picked.{ofKey, Appended, Below};
 ghost use Rattle.search.specs.Settled.{Settled};
 
 // How many loans an image holds.
@@ -78,86 +78,97 @@ fn counted(w: u32, key: u32) -> u32
     if loan::key_of(w) == key { 1 } else { 0 }
 }
 
-// 1 for a loan of the key that carries at that shift, else 0.
-fn taken(w: u32, key: u32, shift: Shift) -> u32
-    ensures { λ r. ⌜ (r ≤ 1) × (r ≡ cond (picks (shift .0) key w) 1 0) ⌝ }
-{
-    let last = loan::last(w);
-    if (loan::key_of(w) == key) & loan::carries(shift, last) {
-        1
-    } else {
-        0
-    }
-}
-
-// 0 only where none of the 16 loans from place `at` on is of the key.
-fn seen(loans: &[u32], at: usize, key: u32) -> u32
-    requires { ⌜ at + 16 ≤ length (now loans) ⌝ }
-    ensures { λ r. ⌜ (r ≡ 0 → keep (λ w. eqb (keyOf w) key) (take (at + 16) (now (loans .entry)))
-        ≡ keep (λ w. eqb (keyOf w) key) (take at (now (loans .entry)))) ⌝ }
+// 0 only where none of the loans is of the key.
+fn seen(loans: &[u32], key: u32) -> u32
+    ensures { λ r. ⌜ (r ≡ 0 → keep (ofKey key) (now (loans .entry)) ≡ []) ⌝ }
 {
     let mut hits = 0u32;
     let mut j = 0;
-    while j < BLOCK {
-        hits |= counted(loans[at + j], key);
+    while j < loans.len() {
+        hits |= counted(loans[j], key);
         j += 1;
     }
     hits
 }
 
-// Picks among the loans from place `from` to place `to`, after the `m` picked before. Each loan is written, and the next one
-// overwrites it where it does not count.
-fn pick_part(
-    out: &mut [u32],
-    loans: &[u32],
-    m: usize,
-    from: usize,
-    to: usize,
-    key: u32,
-    shift: Shift,
-) -> usize
-    requires { ⌜ (length (now loans) ≤ length (now out)) × (from ≤ to) × (to ≤ length (now loans))
-        × Picked (now loans) (shift .0) key from m (now out) ⌝ }
-    ensures { λ r. ⌜ Picked (now (loans .entry)) (shift .0) key to r (now (out .exit)) ⌝ }
+// Puts the loans of the key behind the `m` picked before. Each loan is written, and the next one overwrites it where it does not count.
+fn pick_part(out: &mut [u32], loans: &[u32], m: usize, key: u32) -> usize
+    requires { ⌜ m + length (now loans) ≤ length (now out) ⌝ }
+    ensures { λ r. ⌜ Appended (now (out .entry)) m (now (loans .entry)) key r (now (out .exit)) ⌝ }
 {
     let mut m = m;
-    let mut i = from;
-    while i < to {
+    let mut i = 0;
+    while i < loans.len() {
         let w = loans[i];
         out[m] = w;
-        m += taken(w, key, shift) as usize;
+        m += counted(w, key) as usize;
         i += 1;
     }
     m
 }
 
-// The same for 16 loans. Most have another key, and a test of all at once passes them over.
-fn pick_block(out: &mut [u32], loans: &[u32], m: usize, at: usize, key: u32, shift: Shift) -> usize
-    requires { ⌜ (length (now loans) ≤ length (now out)) × (at + 16 ≤ length (now loans))
-        × Picked (now loans) (shift .0) key at m (now out) ⌝ }
-    ensures { λ r. ⌜ Picked (now (loans .entry)) (shift .0) key (at + 16) r (now (out .exit)) ⌝ }
+// The same. Most loans have another key, and a test of all at once passes them over.
+fn pick_block(out: &mut [u32], loans: &[u32], m: usize, key: u32) -> usize
+    requires { ⌜ m + length (now loans) ≤ length (now out) ⌝ }
+    ensures { λ r. ⌜ Appended (now (out .entry)) m (now (loans .entry)) key r (now (out .exit)) ⌝ }
 {
-    if seen(loans, at, key) == 0 {
+    if seen(loans, key) == 0 {
         return m;
     }
-    let to = at + BLOCK;
-    pick_part(out, loans, m, at, to, key, shift)
+    pick_part(out, loans, m, key)
 }
 
-// The loans of the key that carry at that shift, in their order, to the front of `out`, and their number.
+// The same for many loans, 16 at a time.
+fn pick_run(out: &mut [u32], loans: &[u32], m: usize, key: u32) -> usize
+    requires { ⌜ m + length (now loans) ≤ length (now out) ⌝ }
+    ensures { λ r. ⌜ Appended (now (out .entry)) m (now (loans .entry)) key r (now (out .exit)) ⌝ }
+{
+    let mut m = m;
+    let mut i = 0;
+    while BLOCK <= loans.len() - i {
+        m = pick_block(out, &loans[i..i + BLOCK], m, key);
+        i += BLOCK;
+    }
+    pick_part(out, &loans[i..], m, key)
+}
+
+// How many of rising words lie below a number, by halving.
+fn below(words: &[u32], x: u32) -> usize
+    requires { ⌜ rising (now words) ≡ true ⌝ }
+    ensures { λ r. ⌜ Below (now (words .entry)) x r ⌝ }
+{
+    let mut lo: usize = 0;
+    let mut hi = words.len();
+    while lo < hi {
+        let mid = lo + (hi - lo) / 2;
+        if words[mid] < x {
+            lo = mid + 1;
+        } else {
+            hi = mid;
+        }
+    }
+    lo
+}
+
+// The greater of two places.
+fn later(a: usize, b: usize) -> usize
+    ensures { λ r. ⌜ r ≡ max a b ⌝ }
+{
+    if a < b { b } else { a }
+}
+
+// The loans of the key that carry at that shift, in their order, to the front of `out`, and their number. Of rising loans the open-ended
+// come first, then those that are past, then the others that carry: so two runs have all.
 fn pick(out: &mut [u32], loans: &[u32], key: u32, shift: Shift) -> usize
-    requires { ⌜ length (now loans) ≤ length (now out) ⌝ }
+    requires { ⌜ (length (now loans) ≤ length (now out)) × (rising (now loans) ≡ true) × (shift .0 ≤ 255) ⌝ }
     ensures { λ r. ⌜ (r ≤ length (now (loans .entry)))
         × (take r (now (out .exit)) ≡ keep (picks (shift .0) key) (now (loans .entry))) ⌝ }
 {
-    let end = loans.len();
-    let mut m = 0;
-    let mut i = 0;
-    while BLOCK <= end - i {
-        m = pick_block(out, loans, m, i, key, shift);
-        i += BLOCK;
-    }
-    pick_part(out, loans, m, i, end, key, shift)
+    let dated = below(loans, loan::DATED);
+    let current = below(loans, loan::least(shift));
+    let from = later(dated, current);
+    let m = pick_run(out, &loans[..dated], 0, key);
+    pick_run(out, &loans[from..], m, key)
 }
 
 // Round 0: the greatest depth + 1 of each of the 64 grant bytes from `base` on, or 0.
@@ -383,7 +394,7 @@ fn best_in(
     who: Item,
 ) -> ChainChecked
     requires { ⌜ (length (now loans) ≡ loanWords) × (countOf (now loans) ≤ length (now out)) × (length (now out) ≤ mostLoans)
-        × (shiftIn (now loans) ≤ 255) × (length (now grants) ≡ grantCells) × (key ≤ 511) × (who .0 ≤ 63) × (length (now chain) ≡ 8) ⌝ }
+        × (shiftIn (now loans) ≤ 255) × (rising (used (now loans)) ≡ true) × (length (now grants) ≡ grantCells) × (key ≤ 511) × (who .0 ≤ 63) × (length (now chain) ≡ 8) ⌝ }
     ensures { λ r. ⌜ (r ≡ foundSaid (foundOf (now (grants .entry)) (now (loans .entry)) key (who .0)))
         × (now (chain .exit) ≡ chainOf (now (grants .entry)) (now (loans .entry)) key (who .0)) ⌝ }
 {

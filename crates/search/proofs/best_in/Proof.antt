@@ -2,12 +2,15 @@
 -- then says what was found (`found-is`), and the chain is empty where it is 0 (`chain-no`), else the one traced (`chain-yes`).
 use borrow.Author.Needs.{needs}
 use native.Mathlib.Omega.{arith}
-use mathlib.Core.Path.{sym, ap, _∙_}
+use mathlib.Core.Path.{_≡_, sym, ap, _∙_}
 use mathlib.Core.Logic.{⊎-elim}
 use lib.ListN.{length, take}
 use lib.Seq.{length-take-le}
 use Rattle.model.specs.Answers.{foundSaid}
 use Rattle.search.proofs.Outcome.{Searched, searched, found-is, chain-no, chain-yes}
+use Prim.Native.Nat.{ℕ, _+_, _-_}
+use lib.ListN.{drop}
+use Rattle.delegation.specs.Loans.{rising, countOf, used}
 use Rattle.search.proofs.best_in.Statement.{statement}
 use Rattle.search.proofs.best_in.Tie as tie
 
@@ -29,7 +32,7 @@ module _ (b : tie.After-best-of) where
       let e = b .best-of in
       searched (start .args .grants .now) (start .args .loans .now) (start .args .key) (start .args .who .0) (n .result)
       (p .result .0) (f .result) (take (l .result) (l .last .0)) (r .result) (e .result .value) (e .result .at) (n .ensures)
-      (omega (arith, p .ensures, start .pre .3)) (start .pre .6)
+      (omega (arith, p .ensures, start .pre .3)) (start .pre .7)
       (l .ensures .1) (f .ensures) (r .ensures) (e .ensures .0) (e .ensures .1)
 
 in-use-requires : tie.Need-in-use-requires
@@ -51,7 +54,13 @@ part-pick-end : tie.Need-part-pick-end
 part-pick-end c = search needs
 
 pick-requires : tie.Need-pick-requires
-pick-requires c κs = search needs
+unfolding used
+pick-requires c κs =
+    let s = c .before .before .before .before .before .before .before .before in
+    let n = c .before .before .before .in-use in
+    let t = s .args .loans .now in
+    let m : n .result + 1 - 1 ≡ countOf t = omega (arith, n .ensures) in
+    (search needs, ap (λ (k : ℕ). rising (take k (drop 1 t))) m ∙ s .pre .4, omega (arith, c .before .before .present .ensures))
 
 slice-reshare-prefix-ls : tie.Need-slice-reshare-prefix-ls
 slice-reshare-prefix-ls c = search needs

@@ -1,68 +1,93 @@
--- What is picked of the first i loans stands at the front (`Picked`), at first nothing; whole blocks are picked until fewer than 16
--- loans are left, and the part after them makes it all.
-use lib.Seq.{take-all}
-use Rattle.bits.specs.Sets.{keep}
-use Rattle.delegation.specs.Search.{picks}
-use Rattle.search.specs.Picked.{Picked}
+-- Two runs: the loans with no last shift, and those from the first on that has the present shift or a later one. These are the loans
+-- that carry (`picked-runs`).
 use borrow.Author.Needs.{needs}
 use native.Mathlib.Omega.{arith}
-use mathlib.Core.Path.{_≡_, refl, ap, _∙_}
-use Prim.Native.Nat.{_-_, _≤_}
-use lib.ListN.{length}
+use mathlib.Core.Path.{sym}
+use Prim.Native.Nat.{ℕ, _-_}
+use lib.ListN.{length, take, drop}
+use mathlib.Core.Path.{subst}
+use lib.ListN.{length-take, length-drop}
+use lib.Seq.{length-take-le}
+use Rattle.search.specs.Picked.{Appended, Below}
+use Rattle.search.proofs.Runs.{picked-runs}
 use Rattle.search.proofs.pick.Statement.{statement}
 use Rattle.search.proofs.pick.Tie as tie
 
--- what is picked of the first i loans stands at the front
-abbrev Inv-loop : tie.InvT-loop
-Inv-loop out₀ loans key shift end m₀ i₀ out m i =
-    (i ≤ length loans) × (length out ≡ length out₀) × Picked loans (shift .0) key i m out
+below-requires : tie.Need-below-requires
+below-requires c κs = search needs
 
-abbrev μ-loop : tie.MeasureT-loop
-μ-loop out₀ loans key shift end m₀ i₀ out m i = length loans - i
+least-requires : tie.Need-least-requires
+least-requires c κs = search needs
 
-loop-holds : tie.Need-loop-holds Inv-loop μ-loop
-unfolding keep
-loop-holds c = (search needs, refl, record { within = search needs; count = search needs; are = refl })
+below-requires-2 : tie.Need-below-requires-2
+below-requires-2 c κs = search needs
 
-sub-loop : tie.Need-sub-loop Inv-loop μ-loop
-sub-loop c = search needs
+later-requires : tie.Need-later-requires
+later-requires c κs = search needs
 
-pick-block-requires : tie.Need-pick-block-requires Inv-loop μ-loop
-pick-block-requires c κs = search needs
+slice-aggregate-pick-run : tie.Need-slice-aggregate-pick-run
+slice-aggregate-pick-run c =
+    let b = c .before .before .before .before .before .below in sym (length-take-le (b .result) (c .before .before .before .before .before .before .before .before .args .loans .now) (b .ensures .within))
 
-add-i : tie.Need-add-i Inv-loop μ-loop
-add-i c = search needs
+pick-run-requires : tie.Need-pick-run-requires
+pick-run-requires c κs =
+    let b = c .before .before .before .before .before .below in
+    let l = length-take-le (b .result) (c .before .before .before .before .before .before .before .before .args .loans .now) (b .ensures .within) in
+    omega (arith, l, b .ensures .within, c .before .before .before .before .before .before .before .before .pre .0)
 
-loop-less : tie.Need-loop-less Inv-loop μ-loop
-loop-less c = search needs
+mul-pick-run : tie.Need-mul-pick-run
+mul-pick-run c = search needs
 
-loop-again : tie.Need-loop-again Inv-loop μ-loop
-loop-again c = (search needs, search needs, c .before .before .pick-block .ensures)
+sub-pick-run : tie.Need-sub-pick-run
+sub-pick-run c = search needs
 
-pick-part-requires : tie.Need-pick-part-requires Inv-loop μ-loop
-pick-part-requires c κs = search needs
+part-pick-run-start : tie.Need-part-pick-run-start
+part-pick-run-start c = search needs
 
-same-length : tie.Need-same-length Inv-loop μ-loop
+part-pick-run-end : tie.Need-part-pick-run-end
+part-pick-run-end c = search needs
+
+pick-run-requires-2 : tie.Need-pick-run-requires-2
+pick-run-requires-2 c κs =
+    let s = c .before .before .before .before .before .before .before .before .before .before .before .before .before in
+    let a = c .before .before .before .before .before .before .before .before .before .before .below in
+    let b = c .before .before .before .before .before .before .before .before .below2 in
+    let n = length-take-le (a .result) (s .args .loans .now) (a .ensures .within) in
+    simp (length-take, length-drop)
+    (omega (arith, n, a .ensures .within, b .ensures .within, c .before .before .before .before .before .before .before .later .ensures, c .before .before .before .before .pick-run .ensures .count, s .pre .0))
+
+same-length : tie.Need-same-length
 same-length c = search needs
 
-returns : tie.Need-returns Inv-loop μ-loop
+returns : tie.Need-returns
 returns c =
-    let a = c .before .before .before .before .before .before .before .before .args in
-    let p = c .before .before .pick-part .ensures in
-    (p .count, p .are ∙ ap (keep (picks (a .shift .0) (a .key))) (take-all (length (a .loans .now)) (a .loans .now) (omega arith)))
+    let s = c .before .before .before .before .before .before .before .before .before .before .before .before .before .before .before .before in
+    let ls = s .args .loans .now in
+    let a = c .before .before .before .before .before .before .before .before .before .before .before .before .before .below in
+    let l = c .before .before .before .before .before .before .before .before .before .before .later in
+    let one = c .before .before .before .before .before .before .before .pick-run in
+    let two = c .before .before .pick-run2 in
+    let b = subst (λ (x : ℕ). Below ls x (c .before .before .before .before .before .before .before .before .before .before .before .below2 .result)) (c .before .before .before .before .before .before .before .before .before .before .before .before .least .ensures) (c .before .before .before .before .before .before .before .before .before .before .before .below2 .ensures) in
+    picked-runs ls (s .args .shift .0) (s .args .key) (a .result) (c .before .before .before .before .before .before .before .before .before .before .before .below2 .result) (s .pre .2)
+    (λ i. c .before .before .before .before .before .before .before .before .before .before .before .before .before .before .shared-slice-known .given i .fits) (a .ensures) b (s .args .out .now) (one .last .0) (two .last .0) (one .result)
+    (two .result) (one .ensures)
+    (subst (λ (n : ℕ). Appended (one .last .0) (one .result) (take (length ls - n) (drop n ls)) (s .args .key) (two .result) (two .last .0))
+    (l .ensures) (two .ensures))
 
 pub pick-spec : {M : Type 1} → statement M
 pick-spec =
     tie.close
     (tie.spec
-    Inv-loop
-    μ-loop
-    loop-holds
-    sub-loop
-    pick-block-requires
-    add-i
-    loop-less
-    loop-again
-    pick-part-requires
+    below-requires
+    least-requires
+    below-requires-2
+    later-requires
+    slice-aggregate-pick-run
+    pick-run-requires
+    mul-pick-run
+    sub-pick-run
+    part-pick-run-start
+    part-pick-run-end
+    pick-run-requires-2
     same-length
     returns)

@@ -1,16 +1,10 @@
--- Where no loan of the key is seen in the block, the loans picked up to its end are those picked before it, carrying or not
--- (`keep-both`); otherwise they are picked one by one.
+-- Where no loan of the key is seen, nothing is put behind those picked before; otherwise the loans are picked one by one.
 use borrow.Author.Needs.{needs}
 use native.Mathlib.Omega.{arith}
 use mathlib.Core.Path.{sym, ap, _∙_}
-use mathlib.Core.Bool.{Bool}
-use Prim.Native.Nat.{ℕ, _+_}
+use Prim.Native.Nat.{ℕ}
 use lib.ListN.{take}
-use lib.Dec.{eqb}
-use Rattle.bits.specs.Sets.{keep}
-use Rattle.model.specs.Journal.{carries}
-use Rattle.delegation.specs.Loans.{keyOf, lastShift}
-use Rattle.search.proofs.Picking.{keep-both}
+use mathlib.Core.List.{List, _++_, append-nil}
 use Rattle.search.proofs.pick_block.Statement.{statement}
 use Rattle.search.proofs.pick_block.Tie as tie
 
@@ -20,19 +14,10 @@ seen-requires c κs = search needs
 returns : tie.Need-returns
 returns c =
     let a = c .before .before .before .before .args in
-    let p = c .before .before .before .before .pre .2 in
-    let k : ℕ → Bool = λ w. eqb (keyOf w) (a .key) in
-    let t : ℕ → Bool = λ w. carries (a .shift .0) (lastShift w) in
     record {
-      within = c .before .before .before .before .pre .1;
-      count = omega (arith, p .count);
-      are =
-          p .are ∙ keep-both k t (take (a .at) (a .loans .now)) ∙ ap (keep t) (sym (c .before .seen .ensures (omega arith)))
-          ∙ sym (keep-both k t (take (a .at + 16) (a .loans .now)));
+      count = omega arith;
+      are = sym (ap (λ (x : List ℕ). take (a .m) (a .out .now) ++ x) (c .before .seen .ensures (omega arith)) ∙ append-nil (take (a .m) (a .out .now)));
     }
-
-add-to : tie.Need-add-to
-add-to c = search needs
 
 pick-part-requires : tie.Need-pick-part-requires
 pick-part-requires c κs = search needs
@@ -45,4 +30,4 @@ returns-2 c = c .before .before .pick-part .ensures
 
 pub pick-block-spec : {M : Type 1} → statement M
 pick-block-spec =
-    tie.close (tie.spec seen-requires returns add-to pick-part-requires same-length returns-2)
+    tie.close (tie.spec seen-requires returns pick-part-requires same-length returns-2)

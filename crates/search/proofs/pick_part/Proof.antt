@@ -1,26 +1,28 @@
--- What is picked of the first i loans stands at the front (`Picked`): each loan is written there, and the place moves on where it
--- counts (`pick-more`). The loop ends with i at `to`.
-use mathlib.Core.Path.{subst, _≡_, refl}
-use Rattle.delegation.specs.Search.{picks}
-use Rattle.search.specs.Picked.{Picked}
-use Rattle.search.proofs.Picking.{pick-more}
+-- Behind what was there before stand the loans of the key among the first i: each loan is written there, and the place moves on where
+-- it counts (`pick-more`). The loop ends with i at the last.
 use borrow.Author.Needs.{needs}
 use native.Mathlib.Omega.{arith}
-use Prim.Native.Nat.{ℕ, _-_, _≤_}
-use lib.ListN.{length, length-set}
+use mathlib.Core.Path.{_≡_, refl, sym, ap, _∙_}
+use Prim.Native.Nat.{ℕ, _+_, _-_, _≤_}
+use lib.ListN.{length, take, length-set}
+use mathlib.Core.List.{List, _++_, append-nil}
+use lib.Seq.{take-all}
+use Rattle.bits.specs.Sets.{keep}
+use Rattle.search.specs.Picked.{ofKey}
+use Rattle.search.proofs.Picking.{pick-more}
 use Rattle.search.proofs.pick_part.Statement.{statement}
 use Rattle.search.proofs.pick_part.Tie as tie
 
--- what is picked of the first i loans stands at the front
 abbrev Inv-loop : tie.InvT-loop
-Inv-loop out₀ loans m from to key shift m₀ i₀ out m' i =
-    (i ≤ to) × (length out ≡ length out₀) × Picked loans (shift .0) key i m' out
+Inv-loop out₀ loans m key m₀ i₀ out m' i =
+    (i ≤ length loans) × (length out ≡ length out₀) × (m' ≤ m + i) × (take m' out ≡ take m out₀ ++ keep (ofKey key) (take i loans))
 
 abbrev μ-loop : tie.MeasureT-loop
-μ-loop out₀ loans m from to key shift m₀ i₀ out m' i = to - i
+μ-loop out₀ loans m key m₀ i₀ out m' i = length loans - i
 
 loop-holds : tie.Need-loop-holds Inv-loop μ-loop
-loop-holds c = (search needs, refl, c .before .before .pre .3)
+unfolding keep
+loop-holds c = (search needs, refl, search needs, sym (append-nil _))
 
 mul-w : tie.Need-mul-w Inv-loop μ-loop
 mul-w c = search needs
@@ -34,8 +36,8 @@ mul-out c = search needs
 slice-write-out : tie.Need-slice-write-out Inv-loop μ-loop
 slice-write-out c = search needs
 
-taken-requires : tie.Need-taken-requires Inv-loop μ-loop
-taken-requires c κs = search needs
+counted-requires : tie.Need-counted-requires Inv-loop μ-loop
+counted-requires c κs = search needs
 
 cast-m : tie.Need-cast-m Inv-loop μ-loop
 cast-m c = search needs
@@ -52,17 +54,13 @@ loop-less c = search needs
 loop-again : tie.Need-loop-again Inv-loop μ-loop
 loop-again c =
     let a = c .before .before .before .before .before .before .args in
-    let l = c .before .before .before .loop in
-    let p = l .inv .2 in (
+    let p = c .before .before .before .before .before .before .pre in
+    let l = c .before .before .before .loop in (
       search needs,
       simp length-set (l .inv .1),
-      record {
-        within = search needs;
-        count = search needs;
-        are =
-            pick-more (picks (a .shift .0) (a .key)) (a .loans .now) (l .i) (omega arith) (l .out) (l .m) (omega arith) (p .are)
-            (c .taken .result) (c .taken .ensures .1);
-      },
+      omega (arith, c .counted .ensures .0, l .inv .2),
+      pick-more (ofKey (a .key)) (a .loans .now) (l .i) (omega arith) (take (a .m) (a .out .now)) (l .out) (l .m)
+          (omega (arith, p, l .inv .1, l .inv .2)) (l .inv .3) (c .counted .result) (c .counted .ensures .1),
     )
 
 same-length : tie.Need-same-length Inv-loop μ-loop
@@ -72,8 +70,11 @@ returns : tie.Need-returns Inv-loop μ-loop
 returns c =
     let a = c .before .before .before .before .args in
     let l = c .before .loop in
-    let e : l .i ≡ a .to = omega arith in
-    subst (λ (n : ℕ). Picked (a .loans .now) (a .shift .0) (a .key) n (l .m) (l .out)) e (l .inv .2)
+    let e = take-all (l .i) (a .loans .now) (omega arith) in
+    record {
+      count = omega (arith, l .inv .2, l .inv .0);
+      are = l .inv .3 ∙ ap (λ (x : List ℕ). take (a .m) (a .out .now) ++ keep (ofKey (a .key)) x) e;
+    }
 
 pub pick-part-spec : {M : Type 1} → statement M
 pick-part-spec =
@@ -86,7 +87,7 @@ pick-part-spec =
     shared-slice-read-w
     mul-out
     slice-write-out
-    taken-requires
+    counted-requires
     cast-m
     add-m
     add-i
