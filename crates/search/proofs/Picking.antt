@@ -25,18 +25,6 @@ keep-append t (x ∷ xs) ys = go (t x) (keep-append t xs ys)
     go true e = ap (_∷_ x) e
     go false e = e
 
--- what passes two tests, by the one and then by the other
-pub keep-both : (s t : ℕ → Bool) (xs : List ℕ) → keep (λ x. s x && t x) xs ≡ keep t (keep s xs)
-unfolding keep
-keep-both s t [] = refl
-keep-both s t (x ∷ xs) = go (s x) (t x) refl (keep-both s t xs)
-  where
-    go : (a b : Bool) → t x ≡ b → keep (λ x. s x && t x) xs ≡ keep t (keep s xs)
-        → cond (a && b) (x ∷ keep (λ x. s x && t x) xs) (keep (λ x. s x && t x) xs) ≡ keep t (cond a (x ∷ keep s xs) (keep s xs))
-    go true true h e = rw h (ap (_∷_ x) e)
-    go true false h e = rw h e
-    go false b h e = e
-
 -- two tests that agree on the elements keep the same
 pub keep-same : (s t : ℕ → Bool) (xs : List ℕ) → ((i : ℕ) → i < length xs → s (getD xs i 0) ≡ t (getD xs i 0)) → keep s xs ≡ keep t xs
 unfolding keep

@@ -394,7 +394,8 @@ fn best_in(
     who: Item,
 ) -> ChainChecked
     requires { ⌜ (length (now loans) ≡ loanWords) × (countOf (now loans) ≤ length (now out)) × (length (now out) ≤ mostLoans)
-        × (shiftIn (now loans) ≤ 255) × (rising (used (now loans)) ≡ true) × (length (now grants) ≡ grantCells) × (key ≤ 511) × (who .0 ≤ 63) × (length (now chain) ≡ 8) ⌝ }
+        × (shiftIn (now loans) ≤ 255) × (rising (used (now loans)) ≡ true) × (length (now grants) ≡ grantCells)
+        × (key ≤ 511) × (who .0 ≤ 63) × (length (now chain) ≡ 8) ⌝ }
     ensures { λ r. ⌜ (r ≡ foundSaid (foundOf (now (grants .entry)) (now (loans .entry)) key (who .0)))
         × (now (chain .exit) ≡ chainOf (now (grants .entry)) (now (loans .entry)) key (who .0)) ⌝ }
 {

@@ -52,7 +52,8 @@ loop-again-2 c =
     let s = c .before .before .before .before in
     let l = c .before .before .before .loop in
     let mid = l .lo + (l .hi - l .lo) / 2 in
-    (search needs, search needs, l .inv .2, halve-high (s .args .words .now) (s .pre) (s .args .x) mid (omega arith) (omega (arith, c .if1 .left)))
+    let high = halve-high (s .args .words .now) (s .pre) (s .args .x) mid (omega arith) (omega (arith, c .if1 .left)) in
+    (search needs, search needs, l .inv .2, high)
 
 returns : tie.Need-returns Inv-loop μ-loop
 returns c =

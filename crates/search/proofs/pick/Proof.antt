@@ -27,13 +27,15 @@ later-requires c κs = search needs
 
 slice-aggregate-pick-run : tie.Need-slice-aggregate-pick-run
 slice-aggregate-pick-run c =
-    let b = c .before .before .before .before .before .below in sym (length-take-le (b .result) (c .before .before .before .before .before .before .before .before .args .loans .now) (b .ensures .within))
+    let b = c .before .before .before .before .before in
+    sym (length-take-le (b .below .result) (b .before .before .before .args .loans .now) (b .below .ensures .within))
 
 pick-run-requires : tie.Need-pick-run-requires
 pick-run-requires c κs =
-    let b = c .before .before .before .before .before .below in
-    let l = length-take-le (b .result) (c .before .before .before .before .before .before .before .before .args .loans .now) (b .ensures .within) in
-    omega (arith, l, b .ensures .within, c .before .before .before .before .before .before .before .before .pre .0)
+    let b = c .before .before .before .before .before in
+    let start = b .before .before .before in
+    let l = length-take-le (b .below .result) (start .args .loans .now) (b .below .ensures .within) in
+    omega (arith, l, b .below .ensures .within, start .pre .0)
 
 mul-pick-run : tie.Need-mul-pick-run
 mul-pick-run c = search needs
@@ -49,30 +51,35 @@ part-pick-run-end c = search needs
 
 pick-run-requires-2 : tie.Need-pick-run-requires-2
 pick-run-requires-2 c κs =
-    let s = c .before .before .before .before .before .before .before .before .before .before .before .before .before in
-    let a = c .before .before .before .before .before .before .before .before .before .before .below in
-    let b = c .before .before .before .before .before .before .before .before .below2 in
-    let n = length-take-le (a .result) (s .args .loans .now) (a .ensures .within) in
+    let run = c .before .before .before .before in
+    let from = run .before .before .before in
+    let b = from .before in
+    let a = b .before .before in
+    let start = a .before .before .before in
+    let n = length-take-le (a .below .result) (start .args .loans .now) (a .below .ensures .within) in
     simp (length-take, length-drop)
-    (omega (arith, n, a .ensures .within, b .ensures .within, c .before .before .before .before .before .before .before .later .ensures, c .before .before .before .before .pick-run .ensures .count, s .pre .0))
+    (omega (arith, n, a .below .ensures .within, b .below2 .ensures .within, from .later .ensures, run .pick-run .ensures .count, start .pre .0))
 
 same-length : tie.Need-same-length
 same-length c = search needs
 
 returns : tie.Need-returns
 returns c =
-    let s = c .before .before .before .before .before .before .before .before .before .before .before .before .before .before .before .before in
-    let ls = s .args .loans .now in
-    let a = c .before .before .before .before .before .before .before .before .before .before .before .before .before .below in
-    let l = c .before .before .before .before .before .before .before .before .before .before .later in
-    let one = c .before .before .before .before .before .before .before .pick-run in
     let two = c .before .before .pick-run2 in
-    let b = subst (λ (x : ℕ). Below ls x (c .before .before .before .before .before .before .before .before .before .before .before .below2 .result)) (c .before .before .before .before .before .before .before .before .before .before .before .before .least .ensures) (c .before .before .before .before .before .before .before .before .before .before .before .below2 .ensures) in
-    picked-runs ls (s .args .shift .0) (s .args .key) (a .result) (c .before .before .before .before .before .before .before .before .before .before .before .below2 .result) (s .pre .2)
-    (λ i. c .before .before .before .before .before .before .before .before .before .before .before .before .before .before .shared-slice-known .given i .fits) (a .ensures) b (s .args .out .now) (one .last .0) (two .last .0) (one .result)
-    (two .result) (one .ensures)
-    (subst (λ (n : ℕ). Appended (one .last .0) (one .result) (take (length ls - n) (drop n ls)) (s .args .key) (two .result) (two .last .0))
-    (l .ensures) (two .ensures))
+    let run = c .before .before .before .before .before .before .before in
+    let one = run .pick-run in
+    let from = run .before .before .before in
+    let b = from .before in
+    let a = b .before .before in
+    let start = a .before .before .before in
+    let ls = start .args .loans .now in
+    let key = start .args .key in
+    let below = subst (λ (x : ℕ). Below ls x (b .below2 .result)) (b .before .least .ensures) (b .below2 .ensures) in
+    let rest = subst (λ (n : ℕ). Appended (one .last .0) (one .result) (take (length ls - n) (drop n ls)) key (two .result) (two .last .0))
+    (from .later .ensures) (two .ensures) in
+    picked-runs ls (start .args .shift .0) key (a .below .result) (b .below2 .result) (start .pre .2)
+    (λ i. a .before .shared-slice-known .given i .fits) (a .below .ensures) below (start .args .out .now) (one .last .0) (two .last .0)
+    (one .result) (two .result) (one .ensures) rest
 
 pub pick-spec : {M : Type 1} → statement M
 pick-spec =

@@ -14,9 +14,10 @@ seen-requires c κs = search needs
 returns : tie.Need-returns
 returns c =
     let a = c .before .before .before .before .args in
+    let before : List ℕ = take (a .m) (a .out .now) in
     record {
       count = omega arith;
-      are = sym (ap (λ (x : List ℕ). take (a .m) (a .out .now) ++ x) (c .before .seen .ensures (omega arith)) ∙ append-nil (take (a .m) (a .out .now)));
+      are = sym (ap (λ (x : List ℕ). before ++ x) (c .before .seen .ensures (omega arith)) ∙ append-nil before);
     }
 
 pick-part-requires : tie.Need-pick-part-requires
