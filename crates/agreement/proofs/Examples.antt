@@ -27,10 +27,10 @@ pub examples-hold : map outcome examples ≡ map (λ (e : Example). e .expected)
 unfolding fresh base lentFor2 carries examples any keep add extended routes routesTo highest best
 examples-hold = refl
 
--- where lend finds both its last shift past and 1,024 loans, 13 comes before 10
-pub thirteen-before-ten : table (record { by = true; on = true; to = true; edits = true; back = false; past = true; full = true })
-    (argumentsOf (Lend 3 0 9 1 1 1)) ≡ 13
-thirteen-before-ten = refl
+-- a lend whose last shift is past is answered 13, with 1,024 loans standing or not: 13 comes before 10
+pub thirteen-before-ten : (edits back full : Bool)
+    → table (record { by = true; on = true; to = true; edits = edits; back = back; past = true; full = full }) (argumentsOf (Lend 3 0 9 1 1 1)) ≡ 13
+thirteen-before-ten edits back full = refl
 
 -- ---- equal routes
 unfoldable pub sameList : List ℕ → List ℕ → Bool
