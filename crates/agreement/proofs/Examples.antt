@@ -29,7 +29,8 @@ examples-hold = refl
 
 -- a lend whose last shift is past is answered 13, with 1,024 loans standing or not: 13 comes before 10
 pub thirteen-before-ten : (edits back full : Bool)
-    → table (record { by = true; on = true; to = true; edits = edits; back = back; past = true; full = full }) (argumentsOf (Lend 3 0 9 1 1 1)) ≡ 13
+    → table (record { by = true; on = true; to = true; edits = edits; back = back; past = true; full = full })
+    (argumentsOf (Lend 3 0 9 1 1 1)) ≡ 13
 thirteen-before-ten edits back full = refl
 
 -- ---- equal routes
