@@ -12,8 +12,8 @@
  *
  * - Machine: x86-64 with SSE2, the System V calling convention, ELF. There is no library for another machine yet.
  * - Other code: memset, and nothing else. No heap, no thread, no operating system, no state of its own.
- * - Stack: RIGHTS_STACK_BYTES below the caller's frame, arguments included, is enough for any call. The most that was measured is 5,200
- *   bytes, by rights_chains_check; no other call used over 400.
+ * - Stack: RIGHTS_STACK_BYTES below the caller's frame, arguments included, is enough for any call. The most that was measured is 5,271
+ *   bytes, by rights_chains_check; no other call used over 500.
  * - Threads: checks, subjects, inspections and conversions from one image may run side by side. A call that writes an image needs it
  *   alone: no other call on that image meanwhile. Calls on different buffers never meet.
  * - Interrupts and loss of power: no call is atomic. What is stored must change as a whole: run the command on a copy, and where it
@@ -23,7 +23,7 @@
  *
  * - Byte order: least byte first, which is how this machine holds words.
  * - Layout: keep RIGHTS_LAYOUT_DATE beside every stored image, and read no image with another date.
- * - Integrity: 'in order' is no checksum. Of the single-bit changes to the images of one state 8,783 left them in order, each then
+ * - Integrity: 'in order' is no checksum. Of the single-bit changes to the images of one state 5,630 left them in order, each then
  *   with another shift or other items, grants or loans. Keep a checksum beside every stored image, and compare it before
  *   rights_*_inspect.
  *
@@ -66,7 +66,7 @@ extern "C" {
 #endif
 
 /* Which engine this header is of: 10000 * major + 100 * minor + patch, and the date of the images' layout as digits. */
-#define RIGHTS_VERSION 10200
+#define RIGHTS_VERSION 10300
 #define RIGHTS_LAYOUT_DATE 20261116
 
 /* Enough stack below the caller's frame for any call. */
@@ -74,7 +74,8 @@ extern "C" {
 
 /*
  * Limits. An item is a person or a thing, 0 to RIGHTS_ITEM_MAX; item 0 is the root item. Right 0 is the right to edit grants. The last
- * shift of a loan is 1 to RIGHTS_SHIFT_MAX, or 0 for a loan that is open-ended.
+ * shift of a loan is 1 to RIGHTS_SHIFT_MAX, or 0 for a loan that is open-ended. A set of items is any number of 64 bits, bit i for
+ * item i.
  */
 #define RIGHTS_ITEM_MAX 63
 #define RIGHTS_RIGHT_MAX 7
@@ -107,8 +108,8 @@ extern "C" {
 #define RIGHTS_NO_PERSON 255
 
 /*
- * What a function returns, in words: rights_text. The first that applies is given, in this order: 1 to 8, 12, 9, 13, 10. No function
- * here returns RIGHTS_MALFORMED, the number of a command line.
+ * What a function returns, in words: rights_text. The first that applies is given, in this order: 1 to 3, 14, 4 to 8, 12, 9, 13, 10. No
+ * function here returns RIGHTS_MALFORMED, the number of a command line.
  */
 #define RIGHTS_DONE 0
 #define RIGHTS_WRONG_LENGTH 1
@@ -124,6 +125,7 @@ extern "C" {
 #define RIGHTS_MALFORMED 11
 #define RIGHTS_SHIFT_BACK 12
 #define RIGHTS_LAST_PAST 13
+#define RIGHTS_EMPTY_SET 14
 
 /* A short text for a number; never null. */
 static inline const char *rights_text(uint32_t number)
@@ -134,7 +136,7 @@ static inline const char *rights_text(uint32_t number)
     case RIGHTS_NOT_IN_ORDER: return "a lent image to be read is not in order";
     case RIGHTS_OUT_OF_RANGE: return "an item, a right, a depth or a shift is above its limit";
     case RIGHTS_BY_DEAD: return "by does not live";
-    case RIGHTS_NAMED_DEAD: return "on, or to, does not live";
+    case RIGHTS_NAMED_DEAD: return "on, to or a member of set does not live";
     case RIGHTS_ALREADY_LIVE: return "create: on lives";
     case RIGHTS_ROOT_ITEM: return "delete: on is the root item";
     case RIGHTS_NO_EDIT: return "by has no edit grant on the item";
@@ -143,6 +145,7 @@ static inline const char *rights_text(uint32_t number)
     case RIGHTS_MALFORMED: return "a command line is malformed";
     case RIGHTS_SHIFT_BACK: return "shift: below the present one while a loan with a last shift stands";
     case RIGHTS_LAST_PAST: return "lend: last is set and below the present shift";
+    case RIGHTS_EMPTY_SET: return "allowset: the set is empty";
     default: return "no number of this engine";
     }
 }
@@ -161,6 +164,13 @@ RIGHTS_NODISCARD uint32_t rights_lists_delete(uint64_t *image, size_t words, uin
 /* Grants to the right on item on. Lists have no depth: it is checked, then dropped. 0 to 5 or 8. */
 RIGHTS_NODISCARD uint32_t rights_lists_allow(uint64_t *image, size_t words, uint32_t by, uint32_t to, uint32_t on, uint32_t right,
     uint32_t depth) RIGHTS_NONNULL;
+
+/*
+ * Grants the right on item on to every member of set: what an allow for each of them does, in any order, or nothing where any of them
+ * would be refused; 5 where on or any member is dead. 0 to 3, 14, 4, 5 or 8.
+ */
+RIGHTS_NODISCARD uint32_t rights_lists_allow_set(uint64_t *image, size_t words, uint32_t by, uint64_t set, uint32_t on,
+    uint32_t right, uint32_t depth) RIGHTS_NONNULL;
 
 /* Ends the grant of to. 0 to 5 or 8. */
 RIGHTS_NODISCARD uint32_t rights_lists_withdraw(uint64_t *image, size_t words, uint32_t by, uint32_t to, uint32_t on,
@@ -190,6 +200,10 @@ RIGHTS_NODISCARD uint32_t rights_rows_delete(uint8_t *image, size_t bytes, uint3
 /* Grants to the right on item on; the depth is checked, then dropped. */
 RIGHTS_NODISCARD uint32_t rights_rows_allow(uint8_t *image, size_t bytes, uint32_t by, uint32_t to, uint32_t on, uint32_t right,
     uint32_t depth) RIGHTS_NONNULL;
+
+/* Grants the right on item on to every member of set, or to none. */
+RIGHTS_NODISCARD uint32_t rights_rows_allow_set(uint8_t *image, size_t bytes, uint32_t by, uint64_t set, uint32_t on,
+    uint32_t right, uint32_t depth) RIGHTS_NONNULL;
 
 /* Ends the grant of to. */
 RIGHTS_NODISCARD uint32_t rights_rows_withdraw(uint8_t *image, size_t bytes, uint32_t by, uint32_t to, uint32_t on,
@@ -229,6 +243,13 @@ RIGHTS_NODISCARD uint32_t rights_chains_delete(uint8_t *grants, size_t bytes, ui
 /* Grants to the right on item on at that depth, beside the depths that stand. 0 to 5 or 8. */
 RIGHTS_NODISCARD uint32_t rights_chains_allow(uint8_t *grants, size_t bytes, uint32_t *loans, size_t words, uint32_t by,
     uint32_t to, uint32_t on, uint32_t right, uint32_t depth) RIGHTS_NONNULL;
+
+/*
+ * Grants the right on item on at that depth to every member of set: what an allow for each of them does, in any order, or nothing where
+ * any of them would be refused; 5 where on or any member is dead. 0 to 3, 14, 4, 5 or 8.
+ */
+RIGHTS_NODISCARD uint32_t rights_chains_allow_set(uint8_t *grants, size_t bytes, uint32_t *loans, size_t words, uint32_t by,
+    uint64_t set, uint32_t on, uint32_t right, uint32_t depth) RIGHTS_NONNULL;
 
 /* Ends the grants of to at every depth; loans stay. 0 to 5 or 8. */
 RIGHTS_NODISCARD uint32_t rights_chains_withdraw(uint8_t *grants, size_t bytes, uint32_t *loans, size_t words, uint32_t by,

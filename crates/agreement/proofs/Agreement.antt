@@ -11,8 +11,8 @@ use borrow.Author.Tests.{eqb-true, eq-eqb, ne-eqb, leb-true}
 use lib.ListN.{length, getD}
 use lib.Dec.{eqb, leb}
 use Rattle.model.specs.declared.Command.{Command}
-use Rattle.bits.specs.Sets.{any}
-use Rattle.model.specs.Commands.{items, rightDepth, argumentsOf, fits}
+use Rattle.bits.specs.Sets.{any, all}
+use Rattle.model.specs.Commands.{items, rightDepth, argumentsOf, fits, membersOf}
 use Rattle.model.specs.Answers.{flat, asked, Found, nothing}
 use Rattle.model.specs.Journal.{Loan, Journal, grant, sameLoan, isTo, carries, standingLoan, apply, LoanCarries, facts, answered, fresh, step, run}
 use Rattle.layouts.specs.Layouts.{Layout, lists, rows, grantBytes, flatUnit}
@@ -31,6 +31,7 @@ use Rattle.model.proofs.Invariant.{same-loan, loan-self, inv-fresh, loans-range
 use Rattle.layouts.specs.Laws.{Laws, imageOf}
 use Rattle.layouts.proofs.Layouts.{lists-laws, rows-laws, bytes-laws, guard-of, check-of, answer-of, fresh-of, cells-of}
 use Rattle.model.proofs.Answers.{table-flat}
+use Rattle.model.proofs.AllowSet.{answered-table}
 use Rattle.delegation.proofs.Rules.{check-meets}
 use Rattle.delegation.proofs.Loans.{word-fields, word-in, sorted, any-sorted, used-of, shift-of}
 use Rattle.model.proofs.Steps.{inv-step, kept-fresh, kept-step, kept-run, flat-lends, alike-apply}
@@ -213,10 +214,12 @@ own-agreement cs = subst (λ u. Follows flatStep fresh fresh u cs) (sym fresh-un
 alike-answered : {j k : Journal} → Alike j k → (c : Command) → flat c ≡ true → answered j c ≡ answered k c
 alike-answered {j} {k} a c h =
     let x = argumentsOf c in
-    ap (λ (n : ℕ). cond (not (fits x)) 3 n)
+    answered-table j c
+    ∙ ap (λ (n : ℕ). cond (not (fits x)) 3 n)
     (table-flat (facts j x) (facts k x) (ap (any (eqb (x .by))) (a .live)) (ap (any (eqb (x .on))) (a .live))
-    (ap (any (eqb (x .to))) (a .live))
+    (ap (any (eqb (x .to))) (a .live)) (ap (λ (is : List ℕ). all (λ i. any (eqb i) is) (membersOf (x .set))) (a .live))
     (ap (any (isTo (x .by) (x .on) 0)) (a .grants)) x (flat-lends c h))
+    ∙ sym (answered-table k c)
 
 alike-step : {j k : Journal} → Alike j k → (c : Command) → Alike (step j c) (flatStep k c)
 alike-step {j} {k} a c =

@@ -10,26 +10,27 @@ use lib.Dec.{eqb, leb}
 use Rattle.model.specs.declared.Command.{Command}
 use Rattle.model.specs.declared.Command.the-variants.{Lend}
 use Rattle.model.specs.Commands.{argumentsOf}
-use Rattle.bits.specs.Sets.{any, all, keep, add}
+use Rattle.bits.specs.Sets.{any, all, keep, add, tabulate}
+use Rattle.bits.specs.Bits.{bit, members}
 use Rattle.model.specs.Answers.{Found, asked, table, flat}
-use Rattle.model.specs.Journal.{step, run, Loan, Journal, grant, sameGrant, sameLoan, carries, fresh}
+use Rattle.model.specs.Journal.{step, run, Loan, Journal, grant, sameGrant, sameLoan, carries, fresh, lowest}
 use Rattle.layouts.specs.Layouts.{lists, rows}
 use Rattle.model.specs.Chain.{granted, lent, Meets, JournalChain}
 use Rattle.agreement.specs.Agreement.{Units, Agrees, Answers, Follows, called, freshUnits, flatStep, fed}
 use Rattle.agreement.specs.Examples.{Route, route, start, extends, onward, extended, serves, routes, routesTo, Question, asks, checks, Said, number, passed, no, flatYes, yes, highest, best, said, flatSaid, Example, base, lentFor2, examples, outcome, flatOutcome, calls, saidOf, chainSaid, chainOutcome, unitSaid, listOutcome, rowOutcome}
-use Rattle.bits.proofs.Sets.{all-true, fst, snd, both, or-left, or-right, by-cases, either, found, any-same, any-keep}
-use Rattle.model.proofs.Invariant.{same-loan, same-grant, eqb-self, loan-self, grant-self}
+use Rattle.bits.proofs.Sets.{all-true, fst, snd, both, or-left, or-right, by-cases, either, found, any-same, any-keep, any-map, eqb-self}
+use Rattle.model.proofs.Invariant.{same-loan, same-grant, loan-self, grant-self}
 use Rattle.model.proofs.Steps.{kept-run, kept-fresh}
 use Rattle.agreement.proofs.Agreement.{own-agreement, journal-short}
 
--- E1 to E12, and the rows of the shift
+-- E1 to E12, and the rows of the shift and of allowset
 pub examples-hold : map outcome examples ≡ map (λ (e : Example). e .expected) examples
-unfolding fresh base lentFor2 carries examples any keep add extended routes routesTo highest best
+unfolding fresh base lentFor2 carries examples any all keep add tabulate members bit lowest extended routes routesTo highest best
 examples-hold = refl
 
 -- a lend whose last shift is past is answered 13, with 1,024 loans standing or not: 13 comes before 10
 pub thirteen-before-ten : (edits back full : Bool)
-    → table (record { by = true; on = true; to = true; edits = edits; back = back; past = true; full = full })
+    → table (record { by = true; on = true; to = true; members = true; edits = edits; back = back; past = true; full = full })
     (argumentsOf (Lend 3 0 9 1 1 1)) ≡ 13
 thirteen-before-ten edits back full = refl
 
@@ -76,11 +77,6 @@ any-append p (x ∷ xs) ys = ap (λ b. p x || b) (any-append p xs ys) ∙ assoc 
     assoc : (a b c : Bool) → a || (b || c) ≡ (a || b) || c
     assoc true b c = refl
     assoc false b c = refl
-
-any-map : {A B : Type 0} (p : B → Bool) (f : A → B) (xs : List A) → any p (map f xs) ≡ any (λ x. p (f x)) xs
-unfolding any
-any-map p f [] = refl
-any-map p f (x ∷ xs) = ap (λ b. p (f x) || b) (any-map p f xs)
 
 -- ---- a route more by a loan
 extended-in : (l : Loan) (t : Route) (ls : List Loan) (ts : List Route) → any (sameLoan l) ls ≡ true → any (sameRoute t) ts ≡ true
@@ -342,7 +338,7 @@ same-outcomes f g q (x ∷ es) h e =
     ap₂ (λ (y : Said) (ys : List Said). y ∷ ys) (e x (fst (q x) (all q es) h)) (same-outcomes f g q es (snd (q x) (all q es) h) e)
 
 all-settled : all settled examples ≡ true
-unfolding fresh base lentFor2 carries examples any all keep add extended routes routesTo highest best
+unfolding fresh base lentFor2 carries examples any all keep add tabulate members bit lowest extended routes routesTo highest best
 all-settled = refl
 
 -- E1 to E12, of the chain unit
@@ -365,7 +361,7 @@ flat-says cs (checks p) =
     (ap (λ b. cond b flatYes no) (a .list .yes p 9 1), ap (λ b. cond b flatYes no) (a .row .yes p 9 1))
 
 flat-expected : map flatOutcome examples ≡ map (λ (e : Example). e .flat) examples
-unfolding fresh base lentFor2 carries examples any keep add
+unfolding fresh base lentFor2 carries examples any all keep add tabulate members bit lowest
 flat-expected = refl
 
 same-flat : (f : Example → Said) → ((e : Example) → f e ≡ flatOutcome e) → map f examples ≡ map (λ (e : Example). e .flat) examples

@@ -1,11 +1,11 @@
--- Document 01's handover examples E1 to E12, as one table over the journal, and document 02's shifts in rows of their own.
+-- Document 01's handover examples E1 to E12, as one table over the journal, and document 02's shifts and allowset in rows of their own.
 use mathlib.Core.Bool.{Bool, _&&_, cond}
 use mathlib.Core.List.{List, [], _∷_, _++_, map}
 use Prim.Native.Nat.{ℕ, zero, suc, _-_, min, max}
 use lib.ListN.{take, replicate}
 use lib.Dec.{eqb, leb}
 use Rattle.model.specs.declared.Command.{Command}
-use Rattle.model.specs.declared.Command.the-variants.{Create, Delete, Allow, Withdraw, Lend, Recall, Shift}
+use Rattle.model.specs.declared.Command.the-variants.{Create, Delete, Allow, Withdraw, Lend, Recall, Shift, AllowSet}
 use Rattle.bits.specs.Sets.{keep}
 use Rattle.model.specs.Answers.{Found, flat}
 use Rattle.layouts.specs.Machine.{answerOf}
@@ -169,6 +169,29 @@ examples =
     ∷ row [] (asks (Lend 3 0 9 1 1 256)) (number 3) passed
     ∷ row [] (asks (Recall 3 0 9 1 1 256)) (number 3) passed
     ∷ row [] (asks (Shift 0 256)) (number 3) passed
+    -- 'It does what the single allows do': to 4 and 5 (bits 4 and 5 are 48) at a depth of their own, and to nobody else; again it
+    -- changes nothing; to whoever gives the command; of a right and a depth at their limits
+    ∷ row [] (asks (AllowSet 0 48 9 1 3)) (number 0) (number 0)
+    ∷ row (AllowSet 0 48 9 1 3 ∷ []) (checks 4) (yes 3 ((4 ∷ []) ∷ [])) flatYes
+    ∷ row (AllowSet 0 48 9 1 3 ∷ []) (checks 5) (yes 3 ((5 ∷ []) ∷ [])) flatYes
+    ∷ row (AllowSet 0 48 9 1 3 ∷ []) (checks 0) no no
+    ∷ row (AllowSet 0 48 9 1 3 ∷ AllowSet 0 48 9 1 3 ∷ Withdraw 0 4 9 1 ∷ []) (checks 5) (yes 3 ((5 ∷ []) ∷ [])) flatYes
+    ∷ row (AllowSet 0 1 9 1 0 ∷ []) (checks 0) (yes 0 ((0 ∷ []) ∷ [])) flatYes
+    ∷ row [] (asks (AllowSet 0 48 9 7 7)) (number 0) (number 0)
+    ∷ row (Create 0 63 ∷ AllowSet 0 9223372036854775809 9 1 0 ∷ []) (checks 63) (yes 0 ((63 ∷ []) ∷ [])) flatYes
+    -- 'or nothing, with the lowest refusal's number, if any of them is refused': 6 is dead
+    ∷ row [] (asks (AllowSet 0 112 9 1 3)) (number 5) (number 5)
+    ∷ row (AllowSet 0 112 9 1 3 ∷ []) (checks 4) (yes 1 ((3 ∷ 4 ∷ []) ∷ [])) no
+    ∷ row [] (asks (AllowSet 0 48 7 1 3)) (number 5) (number 5)
+    ∷ row [] (asks (AllowSet 7 112 9 1 3)) (number 4) (number 4)
+    ∷ row [] (asks (AllowSet 3 112 9 1 3)) (number 5) (number 5)
+    ∷ row [] (asks (AllowSet 3 48 9 1 3)) (number 8) (number 8)
+    -- '14 when the set is empty, straight after 3'
+    ∷ row [] (asks (AllowSet 0 0 9 1 3)) (number 14) (number 14)
+    ∷ row [] (asks (AllowSet 7 0 6 1 3)) (number 14) (number 14)
+    ∷ row [] (asks (AllowSet 7 0 64 1 3)) (number 3) (number 3)
+    ∷ row [] (asks (AllowSet 0 0 9 8 3)) (number 3) (number 3)
+    ∷ row [] (asks (AllowSet 0 48 9 1 8)) (number 3) (number 3)
     ∷ []
 
 -- what the journal says after an example's commands

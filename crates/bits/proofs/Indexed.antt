@@ -187,3 +187,8 @@ some-elim (suc n) f e =
 pub some-suc : (n : ℕ) (f : ℕ → Bool) → anyBelow (n + 1) f ≡ f n || anyBelow n f
 unfolding anyBelow
 some-suc n f = rw (add-one n)
+
+pub some-ext : (n : ℕ) (f g : ℕ → Bool) → ((k : ℕ) → k < n → f k ≡ g k) → anyBelow n f ≡ anyBelow n g
+unfolding anyBelow
+some-ext zero f g e = refl
+some-ext (suc n) f g e = ap₂ _||_ (e n (omega arith)) (some-ext n f g (λ k l. e k (omega arith)))

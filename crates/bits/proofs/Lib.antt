@@ -3,8 +3,10 @@ pub mod Indexed
 pub mod Sweep
 pub mod Strides
 pub mod Bits
+pub mod Members
 pub mod Lowest
 pub mod Scan
 pub mod Cells
 pub mod Marks
 pub mod Zeros
+pub mod WithBits

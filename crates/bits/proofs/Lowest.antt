@@ -4,13 +4,13 @@ use mathlib.Core.Bool.{Bool, true, cond, false≢true}
 use mathlib.Core.Logic.{_⊎_, inl, inr}
 use Prim.Native.Nat.{ℕ, suc, zero, _+_, _-_, _*_, _/_, _%_, _^_, _<_}
 use native.Mathlib.Omega.{arith}
-use native.Mathlib.Nat.{pow-succ'}
+use native.Mathlib.Nat.{pow-succ', mod-lt, div-add-mod', div-div-eq-div-mul}
 use native.Mathlib.Numerals.{add-one}
 use borrow.Author.Tests.{eqb-true, eqb-false, ltb-true, lt-ltb, le-ltb, ltb-false}
 use lib.Dec.{eqb, ltb}
 use lib.Bits.{bitAnd, and-step, and-self, block-half, block-odd}
 use lib.Count.{trailingZeros, under}
-use lib.Pow.{pow-pos}
+use lib.Pow.{pow-pos, pow-add}
 use Rattle.bits.specs.Bits.{bit, withoutBit, ofBits}
 use Rattle.bits.proofs.Sets.{iff, by-cases}
 use Rattle.bits.proofs.Bits.{bit-zero, bit-suc, ofBits-cong, bit-high}
@@ -80,6 +80,16 @@ bit-block (suc k) a x (suc i) h =
     (λ z. lt-ltb (suc i) (suc k) (omega (arith, ltb-true i k z))) in
     rw (l, d, bit-suc x i)
     (bit-suc (a * 2 ^ suc k + x) i ∙ ap (λ (y : ℕ). bit y i) (block-half a k x) ∙ bit-block k a (x / 2) i (omega (arith, pow-succ' 2 k)))
+
+-- and of a part of one: w bits from bit j on
+pub bit-part : (n j w i : ℕ) → i < w → bit (n / 2 ^ j % 2 ^ w) i ≡ bit n (j + i)
+bit-part n j w i l =
+    let m = n / 2 ^ j in
+    sym (bit-block w (m / 2 ^ w) (m % 2 ^ w) i (mod-lt m (pow-pos w)) ∙ rw (lt-ltb i w l))
+    ∙ ap (λ (x : ℕ). bit x i) (div-add-mod' m (2 ^ w)) ∙ shifted
+  where
+    shifted : bit (n / 2 ^ j) i ≡ bit n (j + i)
+    shifted = unfold bit in (ap (λ (x : ℕ). eqb (x % 2) 1) (div-div-eq-div-mul n (2 ^ j) (2 ^ i) ∙ ap (λ (x : ℕ). n / x) (sym (pow-add 2 j i))))
 
 -- a turn of a loop that gathers n bits, the highest first
 pub bits-down : (f : ℕ → Bool) (n b x d : ℕ) → b < n → x ≡ ofBits b (λ i. f (n - b + i)) → d ≡ cond (f (n - b - 1)) 1 0

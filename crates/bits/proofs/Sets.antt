@@ -1,7 +1,10 @@
 -- Laws of the tests on lists, as equations between Bools.
 use mathlib.Core.Path.{_≡_, refl, sym, ap, ap₂, _∙_}
 use mathlib.Core.Bool.{Bool, true, false, _&&_, _||_, cond, false≢true}
-use mathlib.Core.List.{List, [], _∷_}
+use mathlib.Core.List.{List, [], _∷_, map}
+use Prim.Native.Nat.{ℕ}
+use borrow.Author.Tests.{eqb-true, eq-eqb}
+use lib.Dec.{eqb}
 use Rattle.bits.specs.Sets.{any, all, keep, add}
 
 -- two tests that pass together are equal
@@ -184,3 +187,30 @@ pub any-swap : {A B : Type 0} (p : A → B → Bool) (xs : List A) (ys : List B)
 unfolding any all keep add
 any-swap p [] ys = sym (none ys)
 any-swap p (x ∷ xs) ys = ap (λ b. any (p x) ys || b) (any-swap p xs ys) ∙ sym (any-or (p x) (λ y. any (λ x. p x y) xs) ys)
+
+pub any-map : {A B : Type 0} (p : B → Bool) (f : A → B) (xs : List A) → any p (map f xs) ≡ any (λ x. p (f x)) xs
+unfolding any
+any-map p f [] = refl
+any-map p f (x ∷ xs) = ap (λ b. p (f x) || b) (any-map p f xs)
+
+-- ---- sets of numbers, as lists in any order
+pub eqb-self : (n : ℕ) → eqb n n ≡ true
+eqb-self n = eq-eqb n n refl
+
+-- every element passes
+pub all-from : (q : ℕ → Bool) (xs : List ℕ) → ((i : ℕ) → any (eqb i) xs ≡ true → q i ≡ true) → all q xs ≡ true
+unfolding any all
+all-from q [] h = refl
+all-from q (x ∷ xs) h =
+    both (h x (or-left (eqb x x) (any (eqb x) xs) (eqb-self x))) (all-from q xs (λ i e. h i (or-right (eqb i x) (any (eqb i) xs) e)))
+
+-- and each of them does
+pub all-at : (q : ℕ → Bool) (xs : List ℕ) → all q xs ≡ true → (i : ℕ) → any (eqb i) xs ≡ true → q i ≡ true
+all-at q xs h i e = let f = find (eqb i) q xs h e in ap q (eqb-true i (f .0) (f .2)) ∙ f .1
+
+-- a test does not see the order
+pub any-order : (q : ℕ → Bool) (xs ys : List ℕ) → ((i : ℕ) → any (eqb i) xs ≡ any (eqb i) ys) → any q xs ≡ any q ys
+any-order q xs ys e = iff (any q xs) (any q ys) (half xs ys (λ i h. sym (e i) ∙ h)) (half ys xs (λ i h. e i ∙ h))
+  where
+    half : (xs ys : List ℕ) → ((i : ℕ) → any (eqb i) xs ≡ true → any (eqb i) ys ≡ true) → any q xs ≡ true → any q ys ≡ true
+    half xs ys e t = let f = found q eqb eqb-self xs t in any-same q eqb eqb-true (f .0) ys (e (f .0) (f .2)) (f .1)

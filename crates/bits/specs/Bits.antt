@@ -3,6 +3,8 @@ use mathlib.Core.Bool.{Bool, cond}
 use Prim.Native.Nat.{ℕ, zero, suc, _+_, _-_, _*_, _/_, _%_, _^_}
 use lib.Dec.{eqb}
 use lib.Bits.{bitOr}
+use mathlib.Core.List.{List}
+use Rattle.bits.specs.Sets.{keep, tabulate}
 
 -- bit i of n
 unfoldable pub bit : ℕ → ℕ → Bool
@@ -20,6 +22,10 @@ withoutBit n i = cond (bit n i) (n - 2 ^ i) n
 unfoldable pub ofBits : ℕ → (ℕ → Bool) → ℕ
 ofBits zero f = 0
 ofBits (suc w) f = ofBits w (λ i. f (suc i)) * 2 + cond (f 0) 1 0
+
+-- the bits of n below w, rising
+unfoldable pub members : ℕ → ℕ → List ℕ
+members w n = keep (bit n) (tabulate w (λ (i : ℕ). i))
 
 -- ---- the numbers f 0, .., f (n - 1) ORed
 unfoldable pub orBelow : ℕ → (ℕ → ℕ) → ℕ

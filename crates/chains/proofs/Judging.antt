@@ -15,8 +15,8 @@ use Rattle.model.specs.declared.Arguments.{Arguments}
 use Rattle.model.specs.declared.Typed.{Typed}
 use Rattle.model.specs.declared.Answer.{Answer}
 use Rattle.model.specs.declared.Answer.the-variants as is
-use Rattle.bits.specs.Sets.{any}
-use Rattle.model.specs.Commands.{shifts, mostLoans, Ranged, rawOf}
+use Rattle.bits.specs.Sets.{any, all}
+use Rattle.model.specs.Commands.{shifts, mostLoans, Ranged, rawOf, membersOf}
 use Rattle.model.specs.Answers.{numberOf}
 use Rattle.model.specs.Journal.{carries, loanIn}
 use Rattle.layouts.specs.declared.admit.CommandAdmission.the-variants as command
@@ -99,15 +99,15 @@ module _ (g t : List ℕ) where
 pub loan-word-is : (a : Arguments) (w : ℕ) → Ranged a → w ≡ wordOf (cut (loanIn a)) → w ≡ wordOf (loanIn a)
 loan-word-is a w g e = e ∙ ap wordOf (cut-none a g)
 
-pub facts-are : (s : Images) (a : Arguments) (r w : ℕ) (x y z h b q f : Bool) → r ≡ 0 → w ≡ wordOf (loanIn a)
+pub facts-are : (s : Images) (a : Arguments) (r w : ℕ) (x y z m h b q f : Bool) → r ≡ 0 → w ≡ wordOf (loanIn a)
     → x ≡ liveIn grantBytes (s .grants) (a .by) → y ≡ liveIn grantBytes (s .grants) (a .on) → z ≡ liveIn grantBytes (s .grants) (a .to)
-    → h ≡ held grantBytes (s .grants) (a .by) (a .on) r
+    → m ≡ all (liveIn grantBytes (s .grants)) (membersOf (a .set)) → h ≡ held grantBytes (s .grants) (a .by) (a .on) r
     → b ≡ (ltb (a .shift) (shiftIn (s .loans) % 256) && any wordDated (used (s .loans)))
     → q ≡ not (carries (shiftIn (s .loans) % 256) (a .shift)) → shiftIn (s .loans) ≤ 255
     → f ≡ (leb mostLoans (countOf (s .loans)) && not (any (eqb w) (used (s .loans))))
-    → _≡_ {A = Facts} (record { by = x; on = y; to = z; edits = h; back = b; past = q; full = f }) (chainFacts s a)
-facts-are s a r w x y z h b q f er ew ex ey ez eh eb eq low ef =
-    let m : shiftIn (s .loans) % 256 ≡ shiftIn (s .loans) = omega arith in rw (ex, ey, ez, eh, eb, eq, ef, er, ew, m)
+    → _≡_ {A = Facts} (record { by = x; on = y; to = z; members = m; edits = h; back = b; past = q; full = f }) (chainFacts s a)
+facts-are s a r w x y z m h b q f er ew ex ey ez em eh eb eq low ef =
+    let n : shiftIn (s .loans) % 256 ≡ shiftIn (s .loans) = omega arith in rw (ex, ey, ez, em, eh, eb, eq, ef, er, ew, n)
 
 -- ---- past numbers 1 to 3
 pub ready : (s : Images) (c : Command) (order : Answer) → numberOf order ≡ chainGuarded s true 0 → (t : Typed)

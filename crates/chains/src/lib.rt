@@ -1,4 +1,4 @@
-// The chain unit: grants with depths in an image of 32,776 bytes, the shift and the loans in an image of 1,025 words, the seven commands
+// The chain unit: grants with depths in an image of 32,776 bytes, the shift and the loans in an image of 1,025 words, the eight commands
 // over both, and the check that follows carrying loans through anyone with depth left.
 use delegation::loan;
 use grants::Grants;
@@ -23,7 +23,7 @@ ghost use mathlib.Core.Bool.{true, not};
 ghost use Prim.Native.Nat.{_≤_, _<_};
 ghost use lib.Dec.{eqb};
 ghost use lib.ListN.{length};
-ghost use Rattle.model.specs.declared.Command.the-variants.{Create, Delete, Allow, Withdraw, Lend, Recall};
+ghost use Rattle.model.specs.declared.Command.the-variants.{Create, Delete, Allow, Withdraw, Lend, Recall, AllowSet};
 ghost use Rattle.model.specs.declared.Command.the-variants as command;
 ghost use Rattle.model.specs.Commands.{Ranged, rawOf};
 ghost use Rattle.model.specs.Answers.{numberOf};
@@ -100,12 +100,14 @@ fn facts(grants: &[u8], loans: &[u32], t: Typed) -> Facts
     let by = t.by;
     let on = t.on;
     let to = t.to;
+    let set = t.set;
     let edit = Right::edit();
     let w = loan_word(t);
     Facts {
         by: live::is_live(grants, by),
         on: live::is_live(grants, on),
         to: live::is_live(grants, to),
+        members: live::are_live(grants, set),
         edits: grants::holds(grants, by, on, edit),
         back: loans::shift::goes_back(loans, t.shift),
         past: loans::shift::is_past(loans, t.shift),
@@ -154,10 +156,11 @@ fn apply(grants: &mut [u8], loans: &mut [u32], t: Typed)
         Verb::Lend => loans::insert(loans, loan_word(t)),
         Verb::Recall => drop_loan(loans, loan_word(t)),
         Verb::Shift => set_shift(loans, t.shift),
+        Verb::AllowSet => grants::put_grants(grants, t.set, t.on, t.right, t.depth),
     }
 }
 
-// Numbers 4 to 10, 12 and 13, and what follows.
+// Numbers 4 to 10 and 12 to 14, and what follows.
 fn settle(grants: &mut [u8], loans: &mut [u32], t: Typed) -> Answer
     requires { ⌜ Ready (images (now grants) (now loans)) (rawOf t) ⌝ }
     ensures { λ r. ⌜ Judged chainUnit (images (now (grants .entry)) (now (loans .entry))) (rawOf t) (numberOf r)
@@ -217,6 +220,32 @@ pub fn allow(
         Command::Allow {
             by,
             to,
+            on,
+            right,
+            depth,
+        },
+    )
+}
+
+// What an allow for each member of the set does, in any order, or nothing.
+pub fn allow_set(
+    grants: &mut [u8],
+    loans: &mut [u32],
+    by: u32,
+    set: u64,
+    on: u32,
+    right: u32,
+    depth: u32,
+) -> Answer
+    ensures { λ r. ⌜ Ran chainUnit (images (now (grants .entry)) (now (loans .entry))) (AllowSet by set on right depth) r
+        (images (now (grants .exit)) (now (loans .exit))) ⌝ }
+{
+    offer(
+        grants,
+        loans,
+        Command::AllowSet {
+            by,
+            set,
             on,
             right,
             depth,

@@ -20,7 +20,8 @@ use Rattle.model.proofs.Commands.{ranged-command}
 use Rattle.model.proofs.Invariant.{same-grant, loans-ranged}
 use Rattle.model.specs.Invariant.{ranged, sound, Inv, rangedLoan, soundLoan, LoanInv, Kept}
 use Rattle.model.proofs.Answers.{table-same}
-use Rattle.layouts.proofs.Layouts.{bytes-laws, place-same, live-of, bit-at-of, length-of, held-of, order-of, fresh-of}
+use Rattle.layouts.proofs.Layouts.{bytes-laws, place-same, live-of, members-of, bit-at-of, length-of, held-of, order-of, fresh-of}
+use Rattle.model.proofs.AllowSet.{answered-table}
 use Rattle.delegation.proofs.Loans.{word-fields, sorted, rising-sorted, all-sorted, any-sorted, word-in, used-of, count-of, shift-of, length-loans, order-loans}
 use Rattle.delegation.proofs.Steps.{grantsOf, headerFor, imagesOf, few, few-sorted, chain-after}
 
@@ -83,9 +84,11 @@ answer-chain j v c =
     (λ t. let r = ranged-command a t in
     rw t (table-same (chainFacts (imagesOf j) a) (facts j a) (live-of grantBytes bytes-laws j _ (le-leb _ 63 (r .by)))
     (live-of grantBytes bytes-laws j _ (le-leb _ 63 (r .on))) (live-of grantBytes bytes-laws j _ (le-leb _ 63 (r .to)))
+    (members-of grantBytes bytes-laws j (a .set))
     (held-of grantBytes bytes-laws j (v .inv) _ _ 0 (both (both (le-leb _ 63 (r .by)) (le-leb _ 63 (r .on))) refl)) a
     (λ n. back-of j (v .loan-inv) a) (λ n. past-of j (v .loan-inv) a) (λ n. full-of j (v .loan-inv) a t)))
     (λ t. rw t)
+    ∙ sym (answered-table j c)
 
 pub step-chain : (j : Journal) → Kept j → (c : Command) → stepOf chainUnit (imagesOf j) c ≡ imagesOf (step j c)
 step-chain j v c = rw (answer-chain j v c) (go (eqb (answered j c) 0) refl)

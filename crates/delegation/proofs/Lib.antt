@@ -6,3 +6,4 @@ pub mod Rules
 pub mod Steps
 pub mod ChainUnit
 pub mod Plain
+pub mod AllowSet

@@ -23,10 +23,9 @@ use Rattle.model.specs.Chain.{granted, lent, Meets}
 use Rattle.delegation.specs.Loans.{keyOf, lender, loanItem, loanRight, borrower, loanDepth, shiftIn, used, wordGood, loansInOrder}
 use Rattle.delegation.specs.Images.{Images, standingIn, WordCarries, ImageChain}
 use Rattle.delegation.specs.Search.{picks, picked, height, grantRound, gain, arrive, arriving, nextRound, roundAt, column, lenderTo, traced, roundsOf, heightOf, lengthOf, foundOf, chainOf}
-use Rattle.bits.proofs.Sets.{fst, snd, both, find, any-kept, all-true}
+use Rattle.bits.proofs.Sets.{fst, snd, both, find, any-kept, all-true, eqb-self}
 use Rattle.bits.proofs.Indexed.{getD-tabulate, most-above, first-most, split, any-at, find-at}
 use Rattle.bits.proofs.Bits.{bit-high, bit-top}
-use Rattle.model.proofs.Invariant.{eqb-self}
 use Rattle.layouts.proofs.Layouts.{order-live, bytes-laws}
 
 -- ---- a grant byte

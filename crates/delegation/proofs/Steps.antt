@@ -1,24 +1,25 @@
 -- Each command of a chain unit, case by case: what it does to the two images is what it does to the journal.
 use mathlib.Core.Path.{_≡_, refl, sym, ap, ap₂, _∙_}
 use mathlib.Core.Bool.{not}
-use mathlib.Core.List.{List}
+use mathlib.Core.List.{List, map}
 use Prim.Native.Nat.{ℕ, _≤_}
 use native.Mathlib.Omega.{arith}
 use lib.ListN.{length}
 use lib.Dec.{eqb}
 use Rattle.model.specs.declared.Command.{Command}
-use Rattle.model.specs.declared.Command.the-variants.{Create, Delete, Allow, Withdraw, Lend, Recall, Shift}
+use Rattle.model.specs.declared.Command.the-variants.{Create, Delete, Allow, Withdraw, Lend, Recall, Shift, AllowSet}
 use Rattle.delegation.specs.declared.loan.Header.{Header}
-use Rattle.model.specs.Commands.{argumentsOf, mostLoans}
-use Rattle.model.specs.Journal.{Loan, Journal, loan, sameLoan, loanNames, facts, answered, apply}
+use Rattle.model.specs.Commands.{argumentsOf, membersOf, mostLoans}
+use Rattle.model.specs.Journal.{Loan, Journal, grant, loan, sameLoan, loanNames, facts, answered, apply}
 use Rattle.layouts.specs.Layouts.{grantBytes}
 use Rattle.delegation.specs.Loans.{wordOf, wordNames, movedTo, loansImage}
 use Rattle.delegation.specs.Images.{Images, images}
 use Rattle.delegation.specs.ChainUnit.{chainAfter}
 use Rattle.model.proofs.Invariant.{accepted, loans-ranged}
+use Rattle.model.proofs.AllowSet.{loans-granted, shift-granted}
 use Rattle.model.specs.Invariant.{rangedLoan, LoanInv, Kept}
 use Rattle.layouts.specs.Laws.{imageOf}
-use Rattle.layouts.proofs.Layouts.{bytes-laws, created-of, deleted-of, allowed-of, withdrawn-of, same-image}
+use Rattle.layouts.proofs.Layouts.{bytes-laws, created-of, deleted-of, allowed-of, allowed-set-of, withdrawn-of, same-image}
 use Rattle.delegation.proofs.Loans.{word-names, word-same, sorted, keep-sorted, sorted-add, length-sorted, kept-of, with-of, at-of}
 
 -- ---- the chain unit
@@ -71,3 +72,7 @@ chain-after j v (Recall by to on right depth last) e =
 chain-after j v (Shift by now) e =
     ap₂ images (same-image grantBytes bytes-laws j (apply j (Shift by now)) refl refl)
     (unfold movedTo in (at-of (headerFor j) (sorted (j .loans)) (few-sorted j (v .loan-inv)) now))
+chain-after j v (AllowSet by set on right depth) e =
+    let gs = map (λ i. grant i on right depth) (membersOf set) in
+    ap₂ images (allowed-set-of grantBytes bytes-laws j (v .inv) by set on right depth)
+    (sym (ap₂ (λ (n : ℕ) (ls : List Loan). loansImage (record { shift = n; count = 0 }) (sorted ls)) (shift-granted gs j) (loans-granted gs j)))

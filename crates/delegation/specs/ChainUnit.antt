@@ -1,4 +1,4 @@
--- The chain unit: its seven commands, and its check.
+-- The chain unit: its eight commands, and its check.
 use mathlib.Core.Path.{_≡_}
 use mathlib.Core.Bool.{Bool, true, not, _&&_, cond}
 use mathlib.Core.List.{List, []}
@@ -11,12 +11,12 @@ use Rattle.model.specs.declared.Verb.{Verb}
 use Rattle.model.specs.declared.Verb.the-variants as verb
 use Rattle.model.specs.declared.Answer.{Answer}
 use Rattle.model.specs.declared.ChainChecked.{ChainChecked}
-use Rattle.bits.specs.Sets.{any}
+use Rattle.bits.specs.Sets.{any, all}
 use Rattle.layouts.specs.Machine.{Machine, guardedBy}
-use Rattle.model.specs.Commands.{mostLoans}
+use Rattle.model.specs.Commands.{membersOf, mostLoans}
 use Rattle.model.specs.Answers.{Found, asked, Numbered, chainCheckedOf, nothing, _when_else_}
 use Rattle.model.specs.Journal.{grant, carries, loanIn}
-use Rattle.layouts.specs.Layouts.{grantBytes, grantCells, liveIn, held, inOrder, created, deleted, allowed, withdrawn, freshImage}
+use Rattle.layouts.specs.Layouts.{grantBytes, grantCells, liveIn, held, inOrder, created, deleted, allowed, allowedSet, withdrawn, freshImage}
 use Rattle.delegation.specs.Loans.{wordOf, wordNames, wordDated, loanWords, countOf, shiftIn, used, loansImage, loansWith, loansKept, loansAt, freshHeader, loansInOrder}
 use Rattle.delegation.specs.Images.{Images, images}
 use Rattle.delegation.specs.Search.{foundOf, chainOf}
@@ -40,6 +40,7 @@ chainFacts s a = record {
   by = liveIn grantBytes (s .grants) (a .by);
   on = liveIn grantBytes (s .grants) (a .on);
   to = liveIn grantBytes (s .grants) (a .to);
+  members = all (liveIn grantBytes (s .grants)) (membersOf (a .set));
   edits = held grantBytes (s .grants) (a .by) (a .on) 0;
   back = ltb (a .shift) (shiftIn (s .loans)) && any wordDated (used (s .loans));
   past = not (carries (shiftIn (s .loans)) (a .shift));
@@ -55,6 +56,7 @@ chainDone s a verb.Withdraw = images (withdrawn grantBytes (s .grants) (a .to) (
 chainDone s a verb.Lend = images (s .grants) (loansWith (wordOf (loanIn a)) (s .loans))
 chainDone s a verb.Recall = images (s .grants) (loansKept (λ w. not (eqb (wordOf (loanIn a)) w)) (s .loans))
 chainDone s a verb.Shift = images (s .grants) (loansAt (a .shift) (s .loans))
+chainDone s a verb.AllowSet = images (allowedSet grantBytes (s .grants) (a .set) (a .on) (a .right) (a .depth)) (s .loans)
 
 -- by the verb of its arguments
 abbrev pub chainAfter : Images → Arguments → Images

@@ -6,13 +6,14 @@ use bits::bytes;
 use layouts::live;
 use model::Depth;
 use model::Item;
+use model::ItemSet;
 use model::Right;
 ghost use mathlib.Core.Path.{_≡_};
 ghost use Prim.Native.Nat.{_+_, _*_, _<_};
 ghost use lib.ListN.{length, getD};
 ghost use Rattle.model.specs.Journal.{grant};
 ghost use Rattle.layouts.specs.Live.{masksOf};
-ghost use Rattle.layouts.specs.Layouts.{grantBytes, grantCells, held, inOrder, created, deleted, allowed, withdrawn, freshImage, freshOf};
+ghost use Rattle.layouts.specs.Layouts.{grantBytes, grantCells, held, inOrder, created, deleted, allowed, allowedSet, withdrawn, freshImage, freshOf};
 
 mod scan;
 
@@ -80,6 +81,15 @@ pub fn put_grant(grants: &mut [u8], to: Item, on: Item, right: Right, depth: Dep
 {
     let at = place(to, on, right);
     grants[at] = byte::with(grants[at], depth.number());
+}
+
+// The depth to every member of the set: their bytes stand side by side.
+pub fn put_grants(grants: &mut [u8], set: ItemSet, on: Item, right: Right, depth: Depth)
+    requires { ⌜ (length (now grants) ≡ grantCells) × (on .0 < 64) × (right .0 < 8) × (depth .0 < 8) ⌝ }
+    ensures { λ _. ⌜ now (grants .exit) ≡ allowedSet grantBytes (now (grants .entry)) (set .0) (on .0) (right .0) (depth .0) ⌝ }
+{
+    let at = place(Item::root(), on, right);
+    bytes::set_each(grants, at, 1, set.number(), depth.number());
 }
 
 // Every depth ends.

@@ -49,7 +49,8 @@ rows-flat = record {
   within = λ k h. in-range (k / 512) (k / 8 % 64) (k % 8) 0 (omega arith) (omega arith) (omega arith) (omega arith);
 }
 
-shifted : (i p : ℕ) → eqb (64 + i) (64 + p) ≡ eqb p i
+-- bit 64 + i of an image is place i
+pub shifted : (i p : ℕ) → eqb (64 + i) (64 + p) ≡ eqb p i
 shifted i p =
     iff _ _ (λ z. let q = eqb-true (64 + i) (64 + p) z in eq-eqb p i (omega arith))
     (λ z. let q = eqb-true p i z in eq-eqb (64 + i) (64 + p) (omega arith))

@@ -13,7 +13,8 @@ use Rattle.model.specs.declared.Answer.{Answer}
 use Rattle.model.specs.declared.Answer.the-variants as is
 use Rattle.model.specs.declared.Checked.{Checked}
 use Rattle.model.specs.declared.Offered.the-variants as offered
-use Rattle.model.specs.Commands.{argumentsOf}
+use Rattle.bits.specs.Sets.{all}
+use Rattle.model.specs.Commands.{argumentsOf, membersOf}
 use Rattle.layouts.specs.Machine.{Machine, answerOf, Judged, Ran, Offers}
 use Rattle.model.specs.Answers.{table, numberOf, answerFor, checkedNumber, checkedYes}
 use Rattle.layouts.specs.Layouts.{Layout, inOrder, guarded, factsOf, flatUnit, liveIn, held, checkNumber, checkYes, Checks, Inspects, Freshens, freshImage}
@@ -81,10 +82,11 @@ module _ (L : Layout) (s : List ℕ) where
       → Tells L s (record { answer = r; persons = p }) s
   subjects-are r p e z q = (numbered r _ e, q ∙ sym (rw (← e, z)), refl)
 
-  pub facts-are : (a : Arguments) (r : ℕ) (x y z w : Bool) → r ≡ 0
-      → x ≡ liveIn L s (a .by) → y ≡ liveIn L s (a .on) → z ≡ liveIn L s (a .to) → w ≡ held L s (a .by) (a .on) r
-      → _≡_ {A = Facts} (record { by = x; on = y; to = z; edits = w; back = false; past = false; full = false }) (factsOf L s a)
-  facts-are a r x y z w er ex ey ez ew = rw (ex, ey, ez, ew, er)
+  pub facts-are : (a : Arguments) (r : ℕ) (x y z m w : Bool) → r ≡ 0
+      → x ≡ liveIn L s (a .by) → y ≡ liveIn L s (a .on) → z ≡ liveIn L s (a .to)
+      → m ≡ all (liveIn L s) (membersOf (a .set)) → w ≡ held L s (a .by) (a .on) r
+      → _≡_ {A = Facts} (record { by = x; on = y; to = z; members = m; edits = w; back = false; past = false; full = false }) (factsOf L s a)
+  facts-are a r x y z m w er ex ey ez em ew = rw (ex, ey, ez, em, ew, er)
 
 -- ---- every number that a unit gives is some answer's
 pub flat-known : (L : Layout) (s : List ℕ) (c : Command) → Known (answerOf (flatUnit L) s c)

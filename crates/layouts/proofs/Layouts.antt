@@ -1,7 +1,7 @@
 -- Demand 3 for a unit of any layout: fed the same commands, it follows the journal.
 use mathlib.Core.Path.{_≡_, refl, sym, ap, _∙_}
 use mathlib.Core.Bool.{Bool, true, false, not, _&&_, _||_, cond}
-use mathlib.Core.List.{List}
+use mathlib.Core.List.{List, map}
 use Prim.Native.Nat.{ℕ, zero, suc, _+_, _-_, _%_, _^_, _≤_, _<_}
 use native.Mathlib.Omega.{arith}
 use borrow.Author.Tests.{eqb-true, eq-eqb, leb-true, ltb-true, lt-ltb, le-ltb, le-leb, ltb-false}
@@ -9,20 +9,23 @@ use lib.ListN.{length, getD, List·getD-eq-default}
 use lib.Pow.{pow-pos}
 use lib.Dec.{eqb, leb, ltb}
 use Rattle.bits.specs.Sets.{any, all}
-use Rattle.model.specs.Commands.{items, rightDepth, argumentsOf, fits}
+use Rattle.model.specs.Commands.{items, rightDepth, argumentsOf, fits, membersOf}
 use Rattle.layouts.specs.Machine.{answerOf}
 use Rattle.model.specs.Journal.{Grant, Journal, grant, sameGrant, isTo, names, lives, facts, answered, fresh, apply, hasGrant}
 use Rattle.bits.specs.Cells.{at}
-use Rattle.layouts.specs.Layouts.{Layout, lists, rows, grantBytes, depths, liveIn, grantBit, build, held, inOrder, factsOf, guarded, created, deleted, allowed, withdrawn, flatUnit, freshImage, checkYes}
-use Rattle.bits.proofs.Sets.{iff, fst, snd, both, or-left, or-right, by-cases, find, any-cong, any-same, any-kept, any-add, any-swap}
-use Rattle.bits.proofs.Indexed.{below-intro, below-elim}
+use Rattle.layouts.specs.Layouts.{Layout, lists, rows, grantBytes, depths, liveIn, grantBit, build, held, inOrder, factsOf, guarded, created, deleted, allowed, allowedSet, withdrawn, flatUnit, freshImage, checkYes}
+use Rattle.bits.proofs.Sets.{iff, fst, snd, both, or-left, or-right, by-cases, find, any-cong, any-same, any-kept, any-add, any-swap, any-map}
+use Rattle.bits.proofs.Indexed.{below-intro, below-elim, below-ext}
+use Rattle.bits.specs.Bits.{bit}
+use Rattle.bits.proofs.Members.{all-members}
 use Rattle.bits.proofs.Cells.{image-lt, at-image, image-cong, length-image}
 use Rattle.model.proofs.Commands.{ranged-command}
 use Rattle.model.proofs.Invariant.{same-grant, lives-create, lives-delete, to-parts, beyond-none}
 use Rattle.model.specs.Invariant.{ranged, sound, Inv}
 use Rattle.model.specs.declared.Command.{Command}
-use Rattle.model.specs.declared.Command.the-variants.{Create, Delete, Allow, Withdraw}
+use Rattle.model.specs.declared.Command.the-variants.{Create, Delete, Allow, Withdraw, AllowSet}
 use Rattle.model.proofs.Answers.{LoanFree, table-flat}
+use Rattle.model.proofs.AllowSet.{answered-table, any-granted, live-granted}
 use Rattle.layouts.specs.Laws.{Laws, placed, imageOf}
 
 -- ---- tools
@@ -70,6 +73,12 @@ module _ (L : Layout) (W : Laws L) where
   pub live-of : (j : Journal) (i : ℕ) → leb i 63 ≡ true → liveIn L (imageOf L j) i ≡ lives j i
   unfolding imageOf
   live-of j i h = live-build (lives j) (placed L j) i h
+
+  pub members-of : (j : Journal) (set : ℕ) → all (liveIn L (imageOf L j)) (membersOf set) ≡ all (lives j) (membersOf set)
+  members-of j set =
+      all-members 64 set (liveIn L (imageOf L j))
+      ∙ below-ext 64 _ _ (λ i h. ap (λ b. not (bit set i) || b) (live-of j i (le-leb i 63 (omega arith))))
+      ∙ sym (all-members 64 set (lives j))
 
   pub bit-at-of : (j : Journal) (k : ℕ) → k < L .size → grantBit L (imageOf L j) k ≡ placed L j k
   unfolding imageOf
@@ -164,9 +173,10 @@ module _ (L : Layout) (W : Laws L) where
       ∙ by-cases (fits a)
       (λ t. let r = ranged-command a t in
       rw t (table-flat (factsOf L (imageOf L j) a) (facts j a) (live-of j _ (le-leb _ 63 (r .by))) (live-of j _ (le-leb _ 63 (r .on)))
-      (live-of j _ (le-leb _ 63 (r .to)))
+      (live-of j _ (le-leb _ 63 (r .to))) (members-of j (a .set))
       (held-of j v _ _ 0 (both (both (le-leb _ 63 (r .by)) (le-leb _ 63 (r .on))) refl)) a h))
       (λ t. rw t)
+      ∙ sym (answered-table j c)
 
   -- ---- what the commands do to an image, as what they do to the journal
   pub created-of : (j : Journal) → Inv j → (by on : ℕ) → created L (imageOf L j) by on ≡ imageOf L (apply j (Create by on))
@@ -193,6 +203,16 @@ module _ (L : Layout) (W : Laws L) where
       build-cong _ _ _ _ (λ i h. live-of j i h)
       (λ k h. ap (λ b. eqb (L .place (grant to on right depth)) k || b) (bit-at-of j k h)
       ∙ sym (any-add (λ g. eqb (L .place g) k) sameGrant same-grant (grant to on right depth) (j .grants)))
+
+  pub allowed-set-of : (j : Journal) → Inv j → (by set on right depth : ℕ)
+      → allowedSet L (imageOf L j) set on right depth ≡ imageOf L (apply j (AllowSet by set on right depth))
+  unfolding imageOf
+  allowed-set-of j v by set on right depth =
+      let gs = map (λ i. grant i on right depth) (membersOf set) in
+      build-cong _ _ _ _ (λ i h. live-of j i h ∙ ap (any (eqb i)) (sym (live-granted gs j)))
+      (λ k h. ap (λ b. any (λ p. eqb (L .place (grant p on right depth)) k) (membersOf set) || b) (bit-at-of j k h)
+      ∙ ap (λ b. b || placed L j k) (sym (any-map (λ g. eqb (L .place g) k) (λ i. grant i on right depth) (membersOf set)))
+      ∙ sym (any-granted (λ g. eqb (L .place g) k) gs j))
 
   pub withdrawn-of : (j : Journal) → Inv j → (by to on right : ℕ)
       → withdrawn L (imageOf L j) to on right ≡ imageOf L (apply j (Withdraw by to on right))

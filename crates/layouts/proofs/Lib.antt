@@ -1,5 +1,6 @@
 pub mod Layouts
 pub mod Edits
+pub mod SetEdits
 pub mod Masks
 pub mod Convert
 pub mod Subjects
@@ -8,3 +9,5 @@ pub mod Guarding
 pub mod Ends
 pub mod Admission
 pub mod Steps
+pub mod Holding
+pub mod AllowSet

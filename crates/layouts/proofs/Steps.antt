@@ -3,7 +3,7 @@ use mathlib.Core.Path.{_≡_, refl}
 use mathlib.Core.Bool.{Bool, true, false, cond, false≢true}
 use lib.Dec.{eqb}
 use Rattle.model.specs.declared.Command.{Command}
-use Rattle.model.specs.declared.Command.the-variants.{Create, Delete, Allow, Withdraw, Lend, Recall, Shift}
+use Rattle.model.specs.declared.Command.the-variants.{Create, Delete, Allow, Withdraw, Lend, Recall, Shift, AllowSet}
 use Rattle.model.specs.Commands.{argumentsOf}
 use Rattle.model.specs.Answers.{flat}
 use Rattle.layouts.specs.Machine.{stepOf}
@@ -11,7 +11,7 @@ use Rattle.model.specs.Journal.{Journal, answered, apply, step}
 use Rattle.layouts.specs.Layouts.{Layout, after, flatUnit}
 use Rattle.model.specs.Invariant.{Inv}
 use Rattle.layouts.specs.Laws.{Laws, imageOf}
-use Rattle.layouts.proofs.Layouts.{answer-of, created-of, deleted-of, allowed-of, withdrawn-of}
+use Rattle.layouts.proofs.Layouts.{answer-of, created-of, deleted-of, allowed-of, withdrawn-of, allowed-set-of}
 use Rattle.model.proofs.Steps.{flat-lends}
 
 module _ (L : Layout) (W : Laws L) where
@@ -23,6 +23,7 @@ module _ (L : Layout) (W : Laws L) where
   after-of j v (Lend by to on right depth last) h = absurd (false≢true h)
   after-of j v (Recall by to on right depth last) h = absurd (false≢true h)
   after-of j v (Shift by now) h = absurd (false≢true h)
+  after-of j v (AllowSet by set on right depth) h = allowed-set-of L W j v by set on right depth
 
   pub step-of : (j : Journal) → Inv j → (c : Command) → flat c ≡ true → stepOf (flatUnit L) (imageOf L j) c ≡ imageOf L (step j c)
   step-of j v c h = rw (answer-of L W j v c (flat-lends c h)) (go (eqb (answered j c) 0))

@@ -11,11 +11,11 @@ use Rattle.bits.specs.Bits.{bit}
 use Rattle.model.specs.Journal.{Grant, Journal, grant, sameGrant, lives}
 use Rattle.layouts.specs.Layouts.{Layout, lists, rows, grantBytes, depths, grantBit, held}
 use Rattle.layouts.specs.Subjects.{subjectsOf, isSubject}
-use Rattle.bits.proofs.Sets.{iff, fst, snd, both, find, any-same, any-mono, found}
+use Rattle.bits.proofs.Sets.{iff, fst, snd, both, find, any-same, any-mono, found, eqb-self}
 use Rattle.bits.proofs.Indexed.{some-intro, some-elim}
 use Rattle.bits.proofs.Bits.{bit-ofBits}
 use Rattle.model.specs.Invariant.{ranged, sound, Inv}
-use Rattle.model.proofs.Invariant.{same-grant, eqb-self}
+use Rattle.model.proofs.Invariant.{same-grant}
 use Rattle.layouts.specs.Laws.{Laws, imageOf, Flat, Whole}
 use Rattle.layouts.proofs.Layouts.{depth-in, small, bit-at-of, bytes-laws}
 use Rattle.layouts.proofs.Edits.{in-range, lists-flat, rows-flat}

@@ -13,7 +13,8 @@ use Rattle.model.specs.declared.Arguments.{Arguments}
 use Rattle.model.specs.declared.Facts.{Facts}
 use Rattle.model.specs.declared.Checked.{Checked}
 use Rattle.model.specs.declared.Answer.{Answer}
-use Rattle.bits.specs.Sets.{any, allBelow}
+use Rattle.bits.specs.Sets.{any, all, allBelow}
+use Rattle.model.specs.Commands.{membersOf}
 use Rattle.model.specs.Answers.{asked, Numbered, checkedOf, flat, _when_else_}
 use Rattle.layouts.specs.Machine.{Machine, guardedBy}
 use Rattle.model.specs.Journal.{Grant, grant}
@@ -115,6 +116,7 @@ module _ (L : Layout) where
     by = liveIn s (a .by);
     on = liveIn s (a .on);
     to = liveIn s (a .to);
+    members = all (liveIn s) (membersOf (a .set));
     edits = held s (a .by) (a .on) 0;
     back = false;
     past = false;
@@ -133,6 +135,10 @@ module _ (L : Layout) where
   abbrev pub allowed : List ℕ → Grant → List ℕ
   allowed s g = build (liveIn s) (λ k. eqb (L .place g) k || grantBit s k)
 
+  -- with a grant on o, right r, depth d to each member of a set: the places of these grants have their bits, the rest is as it was
+  abbrev pub allowedSet : List ℕ → ℕ → ℕ → ℕ → ℕ → List ℕ
+  allowedSet s set o r d = build (liveIn s) (λ k. any (λ p. eqb (L .place (grant p o r d)) k) (membersOf set) || grantBit s k)
+
   -- without p's grants on o, right r, at any depth
   abbrev pub withdrawn : List ℕ → ℕ → ℕ → ℕ → List ℕ
   withdrawn s p o r = build (liveIn s) (λ k. grantBit s k && not (eqb (L .person k) p && eqb (L .item k) o && eqb (L .right k) r))
@@ -143,6 +149,7 @@ module _ (L : Layout) where
   edited s a edit.Delete = deleted s (a .on)
   edited s a edit.Allow = allowed s (grant (a .to) (a .on) (a .right) (a .depth))
   edited s a edit.Withdraw = withdrawn s (a .to) (a .on) (a .right)
+  edited s a edit.AllowSet = allowedSet s (a .set) (a .on) (a .right) (a .depth)
   edited s a edit.Nothing = s
 
   -- by the change that its arguments name

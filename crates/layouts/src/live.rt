@@ -1,13 +1,15 @@
 // The live set of an image of bytes: bytes 0 to 7, least first. Rows and the grants of a chain unit begin with it.
 use bits::byte;
 use model::Item;
+use model::ItemSet;
 ghost use mathlib.Core.Path.{_≡_};
 ghost use mathlib.Core.Bool.{cond};
-ghost use Prim.Native.Nat.{_+_, _*_, _/_, _%_, _<_};
+ghost use Prim.Native.Nat.{_+_, _*_, _/_, _%_, _^_, _<_};
 ghost use lib.Bits.{bitAnd, bitOr};
 ghost use lib.Dec.{eqb};
 ghost use lib.ListN.{length, getD, set};
-ghost use Rattle.bits.specs.Sets.{tabulate, allBelow};
+ghost use Rattle.model.specs.Commands.{membersOf};
+ghost use Rattle.bits.specs.Sets.{all, tabulate, allBelow};
 ghost use Rattle.bits.specs.Bits.{withBit, withoutBit};
 ghost use Rattle.bits.specs.Cells.{at};
 ghost use Rattle.layouts.specs.Live.{masksOf};
@@ -57,6 +59,34 @@ fn byte_at(image: &[u8], k: usize) -> u8
         return 0;
     }
     image[k]
+}
+
+// Byte k of a number, least first.
+fn part(n: u64, k: u32) -> u8
+    requires { ⌜ k < 8 ⌝ }
+    ensures { λ r. ⌜ r ≡ n / 2 ^ (8 * k) % 2 ^ 8 ⌝ }
+{
+    ((n >> (8 * k)) % 256) as u8
+}
+
+// Whether every member of the set lives; none does where the buffer ends before its bit. Most commands have no set, so the empty one is
+// told first.
+pub fn are_live(image: &[u8], set: ItemSet) -> bool
+    ensures { λ r. ⌜ r ≡ all (at 8 (now (image .entry))) (membersOf (set .0)) ⌝ }
+{
+    if set.is_empty() {
+        return true;
+    }
+    let n = set.number();
+    let mut dead: u8 = 0;
+    let mut k: u32 = 0;
+    while k < 8 {
+        let named = part(n, k);
+        let live = byte_at(image, k as usize);
+        dead = dead | (named & !live);
+        k += 1;
+    }
+    dead == 0
 }
 
 fn mask_of(live: bool) -> u8

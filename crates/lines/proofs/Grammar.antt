@@ -1,5 +1,5 @@
 -- The parser reads exactly the lines of the grammar, each as what it asks for; and none above 128 bytes.
-use Prim.Native.Nat.{ℕ, _+_, _*_, _%_, _<_}
+use Prim.Native.Nat.{ℕ, _+_, _%_, _<_}
 use native.Mathlib.Omega.{arith}
 use mathlib.Core.Path.{_≡_, refl, sym, ap, _∙_}
 use mathlib.Core.Bool.{false, false≢true}
@@ -33,7 +33,7 @@ reads-only s = rw (only-reads s (verbAt s) (only-told s)) (from (valuesBy (formO
         let i = seen (formOf (verbAt s) .pattern) s 0 [] vs e in
         inr record {
           verb = verbAt s;
-          known = verb-fits ((2 * getD s 5 0 + getD s 9 0) % 32);
+          known = verb-fits ((getD s 5 0 + getD s 9 0) % 32);
           values = vs;
           line = i .text ∙ ap (written (formOf (verbAt s) .pattern)) (sym (i .whole));
           many = ap length (i .whole) ∙ i .many;

@@ -1,6 +1,7 @@
 pub mod Line
 pub mod Decimal
 pub mod Values
+pub mod Hexadecimal
 pub mod Patterns
 pub mod Verbs
 pub mod Grammar

@@ -13,7 +13,8 @@ use lib.Seq.{drop-cons, getD-drop}
 use lib.Dec.{leb, eqb}
 use borrow.Author.Tests.{leb-true, le-leb, lt-leb, eq-eqb, ne-eqb}
 use Rattle.lines.specs.declared.Number.the-variants.{Value, Bad}
-use Rattle.lines.specs.Line.{startsWith, digit, digits, valueFrom, valueOf, decimal, numberAt}
+use Rattle.lines.specs.Grammar.{Kind}
+use Rattle.lines.specs.Line.{startsWith, digit, digits, valueFrom, valueOf, decimal, numberAt, valueAt}
 use Rattle.lines.specs.Reader.{Digits, fieldAt}
 use Rattle.bits.proofs.Sets.{by-cases}
 
@@ -156,13 +157,15 @@ digits-start s at i v le h m ev el none =
 pub num-past : (s : List ℕ) (at : ℕ) → length s ≤ at → Bad ≡ numberAt s at
 num-past s at h = bad-number s at (rw (drop-end s at h) (not-empty [] refl))
 
-pub field-none : (key s : List ℕ) (at : ℕ) → startsWith key (drop at s) ≡ false → Bad ≡ fieldAt key s at
+-- ---- fields
+pub field-none : (k : Kind) (key s : List ℕ) (at : ℕ) → startsWith key (drop at s) ≡ false → Bad ≡ fieldAt k key s at
 unfolding fieldAt
-field-none key s at e = rw e refl
+field-none k key s at e = rw e refl
 
-pub field-some : (key s : List ℕ) (at : ℕ) → startsWith key (drop at s) ≡ true → numberAt s (at + length key) ≡ fieldAt key s at
+pub field-some : (k : Kind) (key s : List ℕ) (at : ℕ) → startsWith key (drop at s) ≡ true
+    → valueAt k s (at + length key) ≡ fieldAt k key s at
 unfolding fieldAt
-field-some key s at e = rw e refl
+field-some k key s at e = rw e refl
 
 pub key-fits : (key s : List ℕ) (at : ℕ) → startsWith key (drop at s) ≡ true → at + length key ≤ at + (length s - at)
 key-fits key s at e = omega (arith, starts-length key (drop at s) e, length-drop at s)

@@ -1,6 +1,6 @@
--- A value is read exactly where its decimal digits stand.
+-- A number is read exactly where its decimal digits stand.
 use mathlib.Core.Path.{_≡_, refl, sym, ap, _∙_}
-use mathlib.Core.Bool.{true, not, _||_, false≢true, or-true}
+use mathlib.Core.Bool.{Bool, true, not, _||_, false≢true, or-true}
 use mathlib.Core.List.{List, [], _∷_, _++_, append-assoc, append-nil}
 use Prim.Native.Nat.{ℕ, zero, suc, _+_, _-_, _*_, _/_, _%_, _≤_, _<_}
 use native.Mathlib.Omega.{arith}
@@ -68,10 +68,10 @@ shown-digits (b ∷ ds) a e =
 digit-of : (d : ℕ) → d < 10 → digit (48 + d) ≡ true
 digit-of d h = both (le-leb 48 (48 + d) (omega arith)) (le-leb (48 + d) 57 (omega arith))
 
-all-append : (a b : List ℕ) → all digit a ≡ true → all digit b ≡ true → all digit (a ++ b) ≡ true
+pub all-append : (f : ℕ → Bool) (a b : List ℕ) → all f a ≡ true → all f b ≡ true → all f (a ++ b) ≡ true
 unfolding all
-all-append [] b p q = q
-all-append (x ∷ a) b p q = both (fst (digit x) (all digit a) p) (all-append a b (snd (digit x) (all digit a) p) q)
+all-append f [] b p q = q
+all-append f (x ∷ a) b p q = both (fst (f x) (all f a) p) (all-append f a b (snd (f x) (all f a) p) q)
 
 one-digit : (d : ℕ) → d < 10 → all digit ((48 + d) ∷ []) ≡ true
 unfolding all
@@ -81,7 +81,7 @@ shown-all : (f n : ℕ) → all digit (shownIn f n) ≡ true
 shown-all zero n = unfold all in refl
 shown-all (suc f) n =
     by-cases (ltb n 10) (λ q. rw q (one-digit n (ltb-true n 10 q)))
-    (λ q. rw q (all-append (shownIn f (n / 10)) ((48 + n % 10) ∷ []) (shown-all f (n / 10)) (one-digit (n % 10) (omega arith))))
+    (λ q. rw q (all-append digit (shownIn f (n / 10)) ((48 + n % 10) ∷ []) (shown-all f (n / 10)) (one-digit (n % 10) (omega arith))))
 
 -- it begins with no 0, unless it is 0
 shown-lead : (f n : ℕ) → n < f → 1 ≤ n → (0 < length (shownIn f n)) × (49 ≤ getD (shownIn f n) 0 0)

@@ -1,6 +1,6 @@
 -- What holds of every verb, computed over the list of forms: a form more adds no line here. Two bytes of a line tell its verb, so that the
 -- reader tries one form only.
-use Prim.Native.Nat.{ℕ, zero, suc, _+_, _*_, _%_, _≤_, _<_}
+use Prim.Native.Nat.{ℕ, zero, suc, _+_, _%_, _≤_, _<_}
 use native.Mathlib.Omega.{arith}
 use mathlib.Core.Path.{_≡_, refl, sym, ap, _∙_}
 use mathlib.Core.Bool.{Bool, true, _&&_}
@@ -58,10 +58,10 @@ verb-begins v ws h = starts-written (bytes "do=") (formOf v .pattern) ws (below 
 -- ---- bytes 5 and 9 of a line tell its verb
 -- the verb by a number below 32, as the code has it: @ for the first, a for the next
 abbrev pub verbs : List ℕ
-verbs = bytes "@g@@@@e@@c@@@@@@@@@@fd@@a@b@@@@@"
+verbs = bytes "@@@f@@@e@@@ga@b@@c@@@d@@@@@@h@@@"
 
 abbrev pub verbAt : List ℕ → ℕ
-verbAt s = getD verbs ((2 * getD s 5 0 + getD s 9 0) % 32) 0 % 32
+verbAt s = getD verbs ((getD s 5 0 + getD s 9 0) % 32) 0 % 32
 
 pub verb-fits : (i : ℕ) → getD verbs i 0 % 32 < length forms
 unfolding all

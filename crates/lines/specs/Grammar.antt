@@ -1,34 +1,38 @@
 -- The command lines that are not malformed: a line of text for each verb. `parseLine` reads exactly these (`reads`, `reads-only` in
 -- proofs/Grammar). A line stands here without its byte 10.
 use mathlib.Core.Path.{_≡_}
-use mathlib.Core.Bool.{true, cond}
+use mathlib.Core.Bool.{Bool, true, _&&_, cond}
 use mathlib.Core.List.{List, [], _∷_, _++_}
 use Prim.Native.String.{String}
-use Prim.Native.Nat.{ℕ, zero, suc, _<_}
+use Prim.Native.Nat.{ℕ, zero, suc, _^_, _<_}
 use lib.ListN.{length, getD}
-use lib.Dec.{eqb, leb}
-use Rattle.bits.specs.Sets.{all}
-use Rattle.model.specs.declared.Command.the-variants.{Create, Delete, Allow, Withdraw, Lend, Recall, Shift}
+use lib.Dec.{eqb, leb, ltb}
+use Rattle.model.specs.declared.Command.the-variants.{Create, Delete, Allow, AllowSet, Withdraw, Lend, Recall, Shift}
 use Rattle.lines.specs.declared.Parsed.{Parsed}
 use Rattle.lines.specs.declared.Parsed.the-variants.{Run, Ask, Malformed}
 use Rattle.lines.specs.Bytes.{bytes}
-use Rattle.lines.specs.Show.{shown}
+use Rattle.lines.specs.Show.{shown, shownSet}
+
+-- a value's kind: a number is written in decimal digits, a set in hexadecimal digits
+pub data Kind : Type 0 where
+  number : Kind
+  set : Kind
 
 -- a part of a pattern: a byte that stands there as it is, or a value
 pub data Part : Type 0 where
   literal : ℕ → Part
-  value : Part
+  value : Kind → Part
 
--- the pattern of a text, in which # (byte 35) stands for a value
+-- the pattern of a text, in which # (byte 35) stands for a number and @ (byte 64) for a set
 abbrev pub parts : List ℕ → List Part
 parts [] = []
-parts (c ∷ t) = cond (eqb c 35) value (literal c) ∷ parts t
+parts (c ∷ t) = cond (eqb c 35) (value number) (cond (eqb c 64) (value set) (literal c)) ∷ parts t
 
 -- the number of values in a pattern
 abbrev pub count : List Part → ℕ
 count [] = 0
 count (literal c ∷ t) = count t
-count (value ∷ t) = suc (count t)
+count (value k ∷ t) = suc (count t)
 
 -- what a line asks for, by its n values in their order
 abbrev pub Asks : ℕ → Type 0
@@ -45,13 +49,14 @@ abbrev pub form : (t : String) → Asks (count (parts (bytes t))) → Form
 form t f = record { pattern = parts (bytes t); asks = f }
 
 -- 'A line is key=value fields in fixed order, one space between': '`do` (create, delete, allow, withdraw, lend, recall, check), then the
--- fields in the order of the journal section; check has who, on, right'; 'lend and recall gain `last` at the end', and '`do=shift by now`'.
--- A verb is a place in this list
+-- fields in the order of the journal section; check has who, on, right'; 'lend and recall gain `last` at the end', '`do=shift by now`', and
+-- '`allowset` takes by, set .., on, right, depth'. A verb is a place in this list
 abbrev pub forms : List Form
 forms =
     form "do=create by=# on=#" (λ by on. Run (Create by on)) ∷
     form "do=delete by=# on=#" (λ by on. Run (Delete by on)) ∷
     form "do=allow by=# to=# on=# right=# depth=#" (λ by to on right depth. Run (Allow by to on right depth)) ∷
+    form "do=allowset by=# set=@ on=# right=# depth=#" (λ by set on right depth. Run (AllowSet by set on right depth)) ∷
     form "do=withdraw by=# to=# on=# right=#" (λ by to on right. Run (Withdraw by to on right)) ∷
     form "do=lend by=# to=# on=# right=# depth=# last=#" (λ by to on right depth last. Run (Lend by to on right depth last)) ∷
     form "do=recall by=# to=# on=# right=# depth=# last=#" (λ by to on right depth last. Run (Recall by to on right depth last)) ∷
@@ -76,19 +81,36 @@ applied (suc n) f k vs = applied n (f (getD vs k 0)) (suc k) vs
 unfoldable pub meaning : Form → List ℕ → Parsed
 meaning f vs = applied (count (f .pattern)) (f .asks) 0 vs
 
--- the bytes of a pattern with these values, each in decimal digits with no leading zero
+-- the bytes of a value: 'decimal .. no leading zero but for 0 itself', or '16 lowercase hexadecimal digits, highest first'
+abbrev pub shownAs : Kind → ℕ → List ℕ
+shownAs number v = shown v
+shownAs set v = shownSet v
+
+-- a value within its kind's limit: 'at most 4294967295', or 'a 64-bit number'
+abbrev pub fitsAs : Kind → ℕ → Bool
+fitsAs number v = leb v 4294967295
+fitsAs set v = ltb v (2 ^ 64)
+
+-- the bytes of a pattern with these values
 abbrev pub written : List Part → List ℕ → List ℕ
 written [] vs = []
 written (literal c ∷ t) vs = c ∷ written t vs
-written (value ∷ t) [] = []
-written (value ∷ t) (v ∷ vs) = shown v ++ written t vs
+written (value k ∷ t) [] = []
+written (value k ∷ t) (v ∷ vs) = shownAs k v ++ written t vs
 
--- the line s asks for x: it is the line of a verb with as many values as its pattern has, each 'at most 4294967295'
+-- each of these values is within the limit of the pattern's value at its place
+abbrev pub within : List Part → List ℕ → Bool
+within [] vs = true
+within (literal c ∷ t) vs = within t vs
+within (value k ∷ t) [] = true
+within (value k ∷ t) (v ∷ vs) = fitsAs k v && within t vs
+
+-- the line s asks for x: it is the line of a verb with as many values as its pattern has, each within its limit
 pub record Written (s : List ℕ) (x : Parsed) : Type 0 where
   pub verb : ℕ
   pub known : verb < length forms
   pub values : List ℕ
   pub line : s ≡ written (formOf verb .pattern) values
   pub many : length values ≡ count (formOf verb .pattern)
-  pub small : all (λ v. leb v 4294967295) values ≡ true
+  pub small : within (formOf verb .pattern) values ≡ true
   pub means : x ≡ meaning (formOf verb) values

@@ -8,8 +8,8 @@ use lib.Dec.{eqb}
 use Rattle.lines.specs.declared.Number.{Number}
 use Rattle.lines.specs.declared.Number.the-variants.{Bad}
 use Rattle.lines.specs.Bytes.{bytes}
-use Rattle.lines.specs.Grammar.{Part, literal, value, forms, formOf}
-use Rattle.lines.specs.Line.{startsWith, digits, valueOf, numberAt, Read, Got, Not, valuesBy}
+use Rattle.lines.specs.Grammar.{Kind, number, set, Part, literal, value, forms, formOf}
+use Rattle.lines.specs.Line.{startsWith, digits, valueOf, valueAt, Read, Got, Not, valuesBy}
 
 -- the digits of s from at on end at i, and have the value v
 pub record Digits (s : List ℕ) (at i v : ℕ) : Type 0 where
@@ -18,26 +18,31 @@ pub record Digits (s : List ℕ) (at i v : ℕ) : Type 0 where
   pub small : v ≤ 4294967295
   pub within : i ≤ length s
 
--- the bytes of key at a place of s, and the number after them
-unfoldable pub fieldAt : List ℕ → List ℕ → ℕ → Number
-fieldAt key s at = cond (startsWith key (drop at s)) (numberAt s (at + length key)) Bad
+-- the bytes of key at a place of s, and the value after them
+unfoldable pub fieldAt : Kind → List ℕ → List ℕ → ℕ → Number
+fieldAt k key s at = cond (startsWith key (drop at s)) (valueAt k s (at + length key)) Bad
 
 -- ---- a pattern as the code has it: a word, and a letter for each key
--- the bytes of a key, by its letter: b, w, t, o, r, l, n, and any other for depth
+-- the bytes of a key, by its letter: b, w, t, s, o, r, l, n, and any other for depth
 abbrev pub keyText : ℕ → List ℕ
 keyText k =
     cond (eqb k 98) (bytes " by=") (
     cond (eqb k 119) (bytes " who=") (
     cond (eqb k 116) (bytes " to=") (
+    cond (eqb k 115) (bytes " set=") (
     cond (eqb k 111) (bytes " on=") (
     cond (eqb k 114) (bytes " right=") (
     cond (eqb k 108) (bytes " last=") (
     cond (eqb k 110) (bytes " now=") (
-    bytes " depth=")))))))
+    bytes " depth="))))))))
+
+-- the kind of its value
+abbrev pub keyKind : ℕ → Kind
+keyKind k = cond (eqb k 115) set number
 
 -- the value of a key at a place of s
 unfoldable pub keyAt : ℕ → List ℕ → ℕ → Number
-keyAt k s at = fieldAt (keyText k) s at
+keyAt k s at = fieldAt (keyKind k) (keyText k) s at
 
 -- a run of bytes before the rest of a pattern
 abbrev pub literals : List ℕ → List Part → List Part
@@ -47,7 +52,7 @@ literals (c ∷ w) t = literal c ∷ literals w t
 -- the pattern of keys
 abbrev pub keysParts : List ℕ → List Part
 keysParts [] = []
-keysParts (k ∷ ks) = literals (keyText k) (value ∷ keysParts ks)
+keysParts (k ∷ ks) = literals (keyText k) (value (keyKind k) ∷ keysParts ks)
 
 -- the pattern of a verb's word and keys
 abbrev pub partsOf : List ℕ → List ℕ → List Part

@@ -8,16 +8,16 @@ ghost use mathlib.Core.Path.{_≡_};
 ghost use mathlib.Core.Bool.{true};
 ghost use Prim.Native.Nat.{_-_, _≤_};
 ghost use lib.ListN.{length, drop, getD};
-ghost use Rattle.model.specs.declared.Command.the-variants.{Allow, Withdraw, Lend, Recall};
+ghost use Rattle.model.specs.declared.Command.the-variants.{Allow, AllowSet, Withdraw, Lend, Recall};
 ghost use Rattle.lines.specs.declared.Parsed.the-variants.{Run, Ask};
 ghost use Rattle.lines.specs.Bytes.{bytes};
-ghost use Rattle.lines.specs.Grammar.{formOf, meaning};
-ghost use Rattle.lines.specs.Line.{startsWith, digit, numberAt, valuesBy, parseLine};
+ghost use Rattle.lines.specs.Grammar.{number, set, formOf, meaning, within};
+ghost use Rattle.lines.specs.Line.{startsWith, digit, numberAt, hexadecimal, hexValue, setOf, setAt, valuesBy, parseLine};
 ghost use Rattle.lines.specs.Reader.{Digits, fieldAt, keyAt, partsOf, most, Blank, FilledAs, Only};
 
-// A number and the place after it, or none.
+// A number or a set, and the place after it, or none.
 enum Number {
-    Value(u32, usize),
+    Value(u64, usize),
     Bad,
 }
 
@@ -73,7 +73,7 @@ fn finish(s: &[u8], at: usize, i: usize, v: u64) -> Number
             return Number::Bad;
         }
     }
-    Number::Value(v as u32, i)
+    Number::Value(v, i)
 }
 
 fn read_digits(s: &[u8], at: usize) -> Number
@@ -106,12 +106,77 @@ fn read_number(s: &[u8], at: usize) -> Number
     read_digits(s, at)
 }
 
+// Whether a byte is a lowercase hexadecimal digit.
+fn is_hex(b: u8) -> bool
+    ensures { λ r. ⌜ r ≡ hexadecimal b ⌝ }
+{
+    if is_digit(b) {
+        return true;
+    }
+    if 97 <= b {
+        return b <= 102;
+    }
+    false
+}
+
+fn hex_value(b: u8) -> u64
+    requires { ⌜ hexadecimal b ≡ true ⌝ }
+    ensures { λ r. ⌜ (r ≡ hexValue b) × (r ≤ 15) ⌝ }
+{
+    if is_digit(b) {
+        return digit_value(b);
+    }
+    (b - 87) as u64
+}
+
+// The set that 16 bytes are, where next is the place after them.
+fn set_of(ds: &[u8], next: usize) -> Number
+    requires { ⌜ length (now ds) ≡ 16 ⌝ }
+    ensures { λ r. ⌜ r ≡ setOf (now (ds .entry)) next ⌝ }
+{
+    let mut v: u64 = 0;
+    let mut i = 0;
+    while i < ds.len() {
+        let b = ds[i];
+        if !is_hex(b) {
+            return Number::Bad;
+        }
+        v = v * 16 + hex_value(b);
+        i += 1;
+    }
+    Number::Value(v, next)
+}
+
+// The set that stands in s at a place.
+fn read_set(s: &[u8], at: usize) -> Number
+    ensures { λ r. ⌜ r ≡ setAt (now (s .entry)) at ⌝ }
+{
+    if s.len() < 16 {
+        return Number::Bad;
+    }
+    if s.len() - 16 < at {
+        return Number::Bad;
+    }
+    let next = at + 16;
+    set_of(&s[at..next], next)
+}
+
 // The bytes of key at a place, and the number after them.
 fn field(s: &[u8], at: usize, key: &[u8]) -> Number
-    ensures { λ r. ⌜ r ≡ fieldAt (now (key .entry)) (now (s .entry)) at ⌝ }
+    ensures { λ r. ⌜ r ≡ fieldAt number (now (key .entry)) (now (s .entry)) at ⌝ }
 {
     if starts(s, at, key) {
         return read_number(s, at + key.len());
+    }
+    Number::Bad
+}
+
+// The bytes of key at a place, and the set after them.
+fn set_field(s: &[u8], at: usize, key: &[u8]) -> Number
+    ensures { λ r. ⌜ r ≡ fieldAt set (now (key .entry)) (now (s .entry)) at ⌝ }
+{
+    if starts(s, at, key) {
+        return read_set(s, at + key.len());
     }
     Number::Bad
 }
@@ -124,6 +189,7 @@ fn key_value(s: &[u8], at: usize, key: u8) -> Number
         b'b' => field(s, at, b" by="),
         b'w' => field(s, at, b" who="),
         b't' => field(s, at, b" to="),
+        b's' => set_field(s, at, b" set="),
         b'o' => field(s, at, b" on="),
         b'r' => field(s, at, b" right="),
         b'l' => field(s, at, b" last="),
@@ -136,7 +202,7 @@ fn key_value(s: &[u8], at: usize, key: u8) -> Number
 const MOST: usize = 6;
 
 // Whether a word and these keys, and nothing after them, come after the line's `do=`; and the values of the keys.
-fn fill(values: &mut [u32; MOST], s: &[u8], word: &[u8], keys: &[u8]) -> bool
+fn fill(values: &mut [u64; MOST], s: &[u8], word: &[u8], keys: &[u8]) -> bool
     requires { ⌜ (length (now keys) ≤ most) × Blank (now values) × (startsWith (bytes "do=") (now s) ≡ true) ⌝ }
     ensures { λ r. ⌜ FilledAs (valuesBy (partsOf (now (word .entry)) (now (keys .entry))) (now (s .entry))) r (now (values .exit)) ⌝ }
 {
@@ -157,7 +223,7 @@ fn fill(values: &mut [u32; MOST], s: &[u8], word: &[u8], keys: &[u8]) -> bool
 }
 
 // The values of a line by the word and the keys of a verb. The verbs are numbered as the grammar lists them.
-fn read_by(values: &mut [u32; MOST], s: &[u8], verb: usize) -> bool
+fn read_by(values: &mut [u64; MOST], s: &[u8], verb: usize) -> bool
     requires { ⌜ Blank (now values) × (startsWith (bytes "do=") (now s) ≡ true) ⌝ }
     ensures { λ r. ⌜ FilledAs (valuesBy (formOf verb .pattern) (now (s .entry))) r (now (values .exit)) ⌝ }
 {
@@ -165,11 +231,12 @@ fn read_by(values: &mut [u32; MOST], s: &[u8], verb: usize) -> bool
         0 => fill(values, s, b"create", b"bo"),
         1 => fill(values, s, b"delete", b"bo"),
         2 => fill(values, s, b"allow", b"btord"),
-        3 => fill(values, s, b"withdraw", b"btor"),
-        4 => fill(values, s, b"lend", b"btordl"),
-        5 => fill(values, s, b"recall", b"btordl"),
-        6 => fill(values, s, b"shift", b"bn"),
-        7 => fill(values, s, b"check", b"wor"),
+        3 => fill(values, s, b"allowset", b"bsord"),
+        4 => fill(values, s, b"withdraw", b"btor"),
+        5 => fill(values, s, b"lend", b"btordl"),
+        6 => fill(values, s, b"recall", b"btordl"),
+        7 => fill(values, s, b"shift", b"bn"),
+        8 => fill(values, s, b"check", b"wor"),
         _ => false,
     }
 }
@@ -188,6 +255,18 @@ fn allow(by: u32, to: u32, on: u32, right: u32, depth: u32) -> Parsed
     Parsed::Run(Command::Allow {
         by,
         to,
+        on,
+        right,
+        depth,
+    })
+}
+
+fn allow_set(by: u32, set: u64, on: u32, right: u32, depth: u32) -> Parsed
+    ensures { λ r. ⌜ r ≡ Run (AllowSet by set on right depth) ⌝ }
+{
+    Parsed::Run(Command::AllowSet {
+        by,
+        set,
         on,
         right,
         depth,
@@ -232,31 +311,36 @@ fn ask(who: u32, on: u32, right: u32) -> Parsed
     Parsed::Ask { who, on, right }
 }
 
+// 2 ^ 32, which each number of a line is below: its remainder is the number itself.
+const WORD: u64 = 4294967296;
+
 // What the line of a verb with these values asks for.
-fn meaning_of(verb: usize, values: &[u32; MOST]) -> Parsed
+fn meaning_of(verb: usize, values: &[u64; MOST]) -> Parsed
+    requires { ⌜ within (formOf verb .pattern) (now values) ≡ true ⌝ }
     ensures { λ r. ⌜ r ≡ meaning (formOf verb) (now (values .entry)) ⌝ }
 {
-    let a = values[0];
-    let b = values[1];
-    let c = values[2];
-    let d = values[3];
-    let e = values[4];
-    let f = values[5];
+    let a = (values[0] % WORD) as u32;
+    let b = (values[1] % WORD) as u32;
+    let c = (values[2] % WORD) as u32;
+    let d = (values[3] % WORD) as u32;
+    let e = (values[4] % WORD) as u32;
+    let f = (values[5] % WORD) as u32;
     match verb {
         0 => Parsed::Run(Command::Create { by: a, on: b }),
         1 => Parsed::Run(Command::Delete { by: a, on: b }),
         2 => allow(a, b, c, d, e),
-        3 => withdraw(a, b, c, d),
-        4 => lend(a, b, c, d, e, f),
-        5 => recall(a, b, c, d, e, f),
-        6 => Parsed::Run(Command::Shift { by: a, now: b }),
-        7 => ask(a, b, c),
+        3 => allow_set(a, values[1], c, d, e),
+        4 => withdraw(a, b, c, d),
+        5 => lend(a, b, c, d, e, f),
+        6 => recall(a, b, c, d, e, f),
+        7 => Parsed::Run(Command::Shift { by: a, now: b }),
+        8 => ask(a, b, c),
         _ => Parsed::Malformed,
     }
 }
 
 // A verb for each number that two bytes of its line give: @ is the first of the grammar's list, a the next.
-const VERBS: [u8; 32] = *b"@g@@@@e@@c@@@@@@@@@@fd@@a@b@@@@@";
+const VERBS: [u8; 32] = *b"@@@f@@@e@@@ga@b@@c@@@d@@@@@@h@@@";
 
 // The byte at a place, and 0 past the end.
 fn byte(s: &[u8], at: usize) -> u8
@@ -274,7 +358,7 @@ fn verb_at(s: &[u8]) -> usize
 {
     let a = byte(s, 5) as usize;
     let b = byte(s, 9) as usize;
-    let h = (2 * a + b) % 32;
+    let h = (a + b) % 32;
     (VERBS[h] % 32) as usize
 }
 
@@ -286,7 +370,7 @@ pub fn parse(line: &[u8]) -> Parsed
         return Parsed::Malformed;
     }
     let verb = verb_at(line);
-    let mut values = [0u32; MOST];
+    let mut values = [0u64; MOST];
     if read_by(&mut values, line, verb) {
         return meaning_of(verb, &values);
     }

@@ -11,6 +11,7 @@ use model::Command;
 use model::Edit;
 use model::Facts;
 use model::Item;
+use model::ItemSet;
 use model::Offered;
 use model::Right;
 use model::SubjectSet;
@@ -20,14 +21,14 @@ ghost use mathlib.Core.Path.{_≡_};
 ghost use Prim.Native.Nat.{_+_, _*_, _%_, _<_};
 ghost use lib.Dec.{eqb};
 ghost use lib.ListN.{length, getD};
-ghost use Rattle.model.specs.declared.Command.the-variants.{Create, Delete, Allow, Withdraw};
-ghost use Rattle.bits.specs.Sets.{allBelow};
+ghost use Rattle.model.specs.declared.Command.the-variants.{Create, Delete, Allow, Withdraw, AllowSet};
+ghost use Rattle.bits.specs.Sets.{all, allBelow};
 ghost use Rattle.bits.specs.Bits.{withoutBit, orBelow};
-ghost use Rattle.model.specs.Commands.{Ranged, rawOf};
+ghost use Rattle.model.specs.Commands.{Ranged, rawOf, membersOf};
 ghost use Rattle.model.specs.Answers.{numberOf};
 ghost use Rattle.model.specs.Journal.{grant};
 ghost use Rattle.layouts.specs.Machine.{Judged, Ran, Offers};
-ghost use Rattle.layouts.specs.Layouts.{lists, listWords, liveIn, held, inOrder, guarded, factsOf, created, deleted, allowed, withdrawn, after, flatUnit, Inspects, Checks, freshImage, Freshens};
+ghost use Rattle.layouts.specs.Layouts.{lists, listWords, liveIn, held, inOrder, guarded, factsOf, created, deleted, allowed, allowedSet, withdrawn, after, flatUnit, Inspects, Checks, freshImage, Freshens};
 ghost use Rattle.layouts.specs.Subjects.{Tells};
 ghost use Rattle.layouts.specs.Order.{blockOk};
 ghost use Rattle.bits.specs.Zeros.{swept};
@@ -138,6 +139,14 @@ fn lives(image: &[u64], i: Item) -> bool
     word::has(image[0], i.number())
 }
 
+// Whether every member of the set lives.
+fn are_live(image: &[u64], set: ItemSet) -> bool
+    requires { ⌜ length (now image) ≡ listWords ⌝ }
+    ensures { λ r. ⌜ r ≡ all (liveIn lists (now (image .entry))) (membersOf (set .0)) ⌝ }
+{
+    set.number() & !image[0] == 0
+}
+
 // Where the list of an item and a right stands.
 fn place(on: Item, right: Right) -> usize
     requires { ⌜ (on .0 < 64) × (right .0 < 8) ⌝ }
@@ -163,11 +172,13 @@ fn facts(image: &[u64], t: Typed) -> Facts
     let by = t.by;
     let on = t.on;
     let to = t.to;
+    let set = t.set;
     let edit = Right::edit();
     Facts {
         by: lives(image, by),
         on: lives(image, on),
         to: lives(image, to),
+        members: are_live(image, set),
         edits: holds(image, by, on, edit),
         back: false,
         past: false,
@@ -182,6 +193,15 @@ fn put_grant(image: &mut [u64], to: Item, on: Item, right: Right)
 {
     let at = place(on, right);
     image[at] = word::with(image[at], to.number());
+}
+
+// Every member of the set onto the list.
+fn put_grants(image: &mut [u64], set: ItemSet, on: Item, right: Right)
+    requires { ⌜ (length (now image) ≡ listWords) × (on .0 < 64) × (right .0 < 8) ⌝ }
+    ensures { λ _. ⌜ now (image .exit) ≡ allowedSet lists (now (image .entry)) (set .0) (on .0) (right .0) 0 ⌝ }
+{
+    let at = place(on, right);
+    image[at] = image[at] | set.number();
 }
 
 // The person off the list.
@@ -235,11 +255,12 @@ fn apply(image: &mut [u64], t: Typed)
         Edit::Delete => drop_item(image, t.on),
         Edit::Allow => put_grant(image, t.to, t.on, t.right),
         Edit::Withdraw => drop_grant(image, t.to, t.on, t.right),
+        Edit::AllowSet => put_grants(image, t.set, t.on, t.right),
         Edit::Nothing => {}
     }
 }
 
-// Numbers 4 to 10, and what follows.
+// Numbers 4 to 10 and 14, and what follows.
 fn settle(image: &mut [u64], t: Typed) -> Answer
     requires { ⌜ (length (now image) ≡ listWords) × Ranged (rawOf t) ⌝ }
     ensures { λ r. ⌜ Judged (flatUnit lists) (now (image .entry)) (rawOf t) (numberOf r) (now (image .exit)) ⌝ }
@@ -284,6 +305,22 @@ pub fn allow(image: &mut [u64], by: u32, to: u32, on: u32, right: u32, depth: u3
         Command::Allow {
             by,
             to,
+            on,
+            right,
+            depth,
+        },
+    )
+}
+
+// What an allow for each member of the set does, in any order, or nothing.
+pub fn allow_set(image: &mut [u64], by: u32, set: u64, on: u32, right: u32, depth: u32) -> Answer
+    ensures { λ r. ⌜ Ran (flatUnit lists) (now (image .entry)) (AllowSet by set on right depth) r (now (image .exit)) ⌝ }
+{
+    run(
+        image,
+        Command::AllowSet {
+            by,
+            set,
             on,
             right,
             depth,

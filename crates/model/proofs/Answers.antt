@@ -14,7 +14,7 @@ use Rattle.model.specs.declared.Answer.the-variants as is
 use Rattle.model.specs.declared.Checked.the-variants as checked
 use Rattle.model.specs.declared.ChainChecked.the-variants as chain
 use Rattle.model.specs.Answers.{answer, numberOf, answerFor, Numbered, checkedNumber, checkedYes, checkedOf, Found, nothing, chainNumber, foundIn, foundSaid, chainCheckedOf, table, asked, knows}
-use Rattle.model.specs.Commands.{fits, items, rightDepth}
+use Rattle.model.specs.Commands.{fits, items, rightDepth, isEmpty}
 
 pub answer-for : (a : Answer) → answerFor (numberOf a) ≡ a
 unfolding answerFor
@@ -32,6 +32,7 @@ answer-for is.Full = refl
 answer-for is.Malformed = refl
 answer-for is.ShiftBack = refl
 answer-for is.LastPast = refl
+answer-for is.EmptySet = refl
 
 pub answer-is : (a : Answer) (n : ℕ) → numberOf a ≡ n → a ≡ answerFor n
 answer-is a n e = sym (answer-for a) ∙ ap answerFor e
@@ -54,8 +55,9 @@ known-row false n m h k = k
 -- the numbers of the table
 pub table-known : (f : Facts) (a : Arguments) → Known (table f a)
 table-known f a =
-    known-row (not (f .by)) 4 _ (record { answer = is.ByDead; number = refl })
-    (known-row (knows (a .verb) 5 && not (f .on && f .to)) 5 _ (record { answer = is.NamedDead; number = refl })
+    known-row (knows (a .verb) 14 && isEmpty (a .set)) 14 _ (record { answer = is.EmptySet; number = refl })
+    (known-row (not (f .by)) 4 _ (record { answer = is.ByDead; number = refl })
+    (known-row (knows (a .verb) 5 && not (f .on && f .to && f .members)) 5 _ (record { answer = is.NamedDead; number = refl })
     (known-row (knows (a .verb) 6 && f .on) 6 _ (record { answer = is.AlreadyLive; number = refl })
     (known-row (knows (a .verb) 7 && eqb (a .on) 0) 7 _ (record { answer = is.RootItem; number = refl })
     (known-row (knows (a .verb) 8 && not (f .edits)) 8 _ (record { answer = is.NoEdit; number = refl })
@@ -63,7 +65,7 @@ table-known f a =
     (known-row (knows (a .verb) 9 && eqb (a .right) 0) 9 _ (record { answer = is.EditRight; number = refl })
     (known-row (knows (a .verb) 13 && f .past) 13 _ (record { answer = is.LastPast; number = refl })
     (known-row (knows (a .verb) 10 && f .full) 10 _ (record { answer = is.Full; number = refl })
-    (record { answer = is.Done; number = refl })))))))))
+    (record { answer = is.Done; number = refl }))))))))))
 
 pub answer-known : (f : Facts) (a : Arguments) → Known (answer f a)
 answer-known f a = known-row (not (fits a)) 3 _ (record { answer = is.OutOfRange; number = refl }) (table-known f a)
@@ -123,11 +125,11 @@ row-same true x y h = h refl
 row-same false x y h = refl
 
 -- only lend and shift ask about loans
-pub table-same : (f g : Facts) → f .by ≡ g .by → f .on ≡ g .on → f .to ≡ g .to → f .edits ≡ g .edits → (a : Arguments)
-    → (knows (a .verb) 12 ≡ true → f .back ≡ g .back) → (knows (a .verb) 13 ≡ true → f .past ≡ g .past)
+pub table-same : (f g : Facts) → f .by ≡ g .by → f .on ≡ g .on → f .to ≡ g .to → f .members ≡ g .members → f .edits ≡ g .edits
+    → (a : Arguments) → (knows (a .verb) 12 ≡ true → f .back ≡ g .back) → (knows (a .verb) 13 ≡ true → f .past ≡ g .past)
     → (knows (a .verb) 10 ≡ true → f .full ≡ g .full) → table f a ≡ table g a
-table-same f g x y z w a b p n =
-    rw (x, y, z, w, row-same (knows (a .verb) 12) (f .back) (g .back) b, row-same (knows (a .verb) 13) (f .past) (g .past) p, row-same (knows (a .verb) 10) (f .full) (g .full) n)
+table-same f g x y z m w a b p n =
+    rw (x, y, z, m, w, row-same (knows (a .verb) 12) (f .back) (g .back) b, row-same (knows (a .verb) 13) (f .past) (g .past) p, row-same (knows (a .verb) 10) (f .full) (g .full) n)
 
 -- a verb that no row about loans knows
 pub record LoanFree (v : Verb) : Type 0 where
@@ -136,8 +138,8 @@ pub record LoanFree (v : Verb) : Type 0 where
   pub full : knows v 10 ≡ false
 
 -- of such a command the facts about loans don't matter
-pub table-flat : (f g : Facts) → f .by ≡ g .by → f .on ≡ g .on → f .to ≡ g .to → f .edits ≡ g .edits → (a : Arguments)
-    → LoanFree (a .verb) → table f a ≡ table g a
-table-flat f g x y z w a h =
-    table-same f g x y z w a (λ n. absurd (false≢true (sym (h .back) ∙ n))) (λ n. absurd (false≢true (sym (h .past) ∙ n)))
+pub table-flat : (f g : Facts) → f .by ≡ g .by → f .on ≡ g .on → f .to ≡ g .to → f .members ≡ g .members → f .edits ≡ g .edits
+    → (a : Arguments) → LoanFree (a .verb) → table f a ≡ table g a
+table-flat f g x y z m w a h =
+    table-same f g x y z m w a (λ n. absurd (false≢true (sym (h .back) ∙ n))) (λ n. absurd (false≢true (sym (h .past) ∙ n)))
     (λ n. absurd (false≢true (sym (h .full) ∙ n)))

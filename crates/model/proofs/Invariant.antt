@@ -7,10 +7,10 @@ use native.Mathlib.Omega.{arith}
 use borrow.Author.Tests.{eqb-true, eq-eqb, leb-true, leb-false, not-true}
 use lib.Dec.{eqb, leb}
 use Rattle.bits.specs.Sets.{any, all, keep, add}
-use Rattle.model.specs.Commands.{items, rightDepth, fits}
+use Rattle.model.specs.Commands.{items, rightDepth, fits, isEmpty}
 use Rattle.model.specs.Answers.{answer, asked, knows}
 use Rattle.model.specs.Journal.{Grant, Loan, Journal, grant, loan, sameGrant, sameLoan, isTo, lives, fresh, apply, hasGrant}
-use Rattle.bits.proofs.Sets.{iff, fst, snd, both, all-mono, any-kept, all-keep, any-add, all-true, by-cases, find}
+use Rattle.bits.proofs.Sets.{iff, fst, snd, both, all-mono, any-kept, all-keep, any-add, all-true, by-cases, find, eqb-self}
 use Rattle.model.specs.declared.Command.the-variants.{Create, Delete}
 use Rattle.model.specs.declared.Arguments.{Arguments}
 use Rattle.model.specs.declared.Facts.{Facts}
@@ -47,9 +47,6 @@ same-loan l m e =
     (m .depth) (m .last) = cc in
     r
 
-pub eqb-self : (n : ℕ) → eqb n n ≡ true
-eqb-self n = eq-eqb n n refl
-
 pub grant-self : (g : Grant) → sameGrant g g ≡ true
 grant-self g = simp eqb-self
 
@@ -75,9 +72,11 @@ asked-limits p o r e = let h = asked-in p o r e in search (fst, snd, leb-true)
 -- the rows that did not apply
 pub record Accepted (f : Facts) (a : Arguments) : Type 0 where
   pub fits : fits a ≡ true
+  pub empty : knows (a .verb) 14 && isEmpty (a .set) ≡ false
   pub by : f .by ≡ true
-  pub named : knows (a .verb) 5 && not (f .on && f .to) ≡ false
+  pub named : knows (a .verb) 5 && not (f .on && f .to && f .members) ≡ false
   pub root : knows (a .verb) 7 && eqb (a .on) 0 ≡ false
+  pub edits : knows (a .verb) 8 && not (f .edits) ≡ false
   pub back : knows (a .verb) 12 && f .back ≡ false
   pub right : knows (a .verb) 9 && eqb (a .right) 0 ≡ false
   pub past : knows (a .verb) 13 && f .past ≡ false
@@ -86,8 +85,9 @@ pub record Accepted (f : Facts) (a : Arguments) : Type 0 where
 pub accepted : (f : Facts) (a : Arguments) → answer f a ≡ 0 → Accepted f a
 accepted f a e =
     let p3 = passed 2 (fits a) _ e in
-    let p4 = passed 3 (f .by) _ (p3 .1) in
-    let p5 = blocked 4 (knows (a .verb) 5 && not (f .on && f .to)) _ (p4 .1) in
+    let p14 = blocked 13 (knows (a .verb) 14 && isEmpty (a .set)) _ (p3 .1) in
+    let p4 = passed 3 (f .by) _ (p14 .1) in
+    let p5 = blocked 4 (knows (a .verb) 5 && not (f .on && f .to && f .members)) _ (p4 .1) in
     let p6 = blocked 5 (knows (a .verb) 6 && f .on) _ (p5 .1) in
     let p7 = blocked 6 (knows (a .verb) 7 && eqb (a .on) 0) _ (p6 .1) in
     let p8 = blocked 7 (knows (a .verb) 8 && not (f .edits)) _ (p7 .1) in
@@ -95,13 +95,14 @@ accepted f a e =
     let p9 = blocked 8 (knows (a .verb) 9 && eqb (a .right) 0) _ (p12 .1) in
     let p13 = blocked 12 (knows (a .verb) 13 && f .past) _ (p9 .1) in
     let p10 = blocked 9 (knows (a .verb) 10 && f .full) _ (p13 .1) in
-    record { fits = p3 .0; by = p4 .0; named = p5 .0; root = p7 .0; back = p12 .0; right = p9 .0; past = p13 .0; full = p10 .0 }
+    record { fits = p3 .0; empty = p14 .0; by = p4 .0; named = p5 .0; root = p7 .0; edits = p8 .0; back = p12 .0; right = p9 .0; past = p13 .0; full = p10 .0 }
 
--- both live
-pub both-live : (x y : Bool) → not (x && y) ≡ false → (x ≡ true) × (y ≡ true)
-both-live true true e = (refl, refl)
-both-live true false e = absurd (false≢true (sym e))
-both-live false y e = absurd (false≢true (sym e))
+-- all named live
+pub named-live : (x y m : Bool) → not (x && y && m) ≡ false → (x ≡ true) × (y ≡ true) × (m ≡ true)
+named-live true true true e = (refl, refl, refl)
+named-live true true false e = absurd (false≢true (sym e))
+named-live true false m e = absurd (false≢true (sym e))
+named-live false y m e = absurd (false≢true (sym e))
 
 -- ---- the live set after each command
 pub lives-create : (j : Journal) (by on i : ℕ) → lives (apply j (Create by on)) i ≡ eqb i on || lives j i

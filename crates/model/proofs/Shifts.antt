@@ -2,7 +2,7 @@
 -- a loan once past its last shift stays past for as long as it stands. Without a last shift and a shift command nothing is ever past.
 use mathlib.Core.Path.{_≡_, refl, sym, ap, _∙_}
 use mathlib.Core.Bool.{Bool, true, false, not, _&&_, cond, false≢true}
-use mathlib.Core.List.{List, [], _∷_}
+use mathlib.Core.List.{List, [], _∷_, map}
 use Prim.Native.Nat.{ℕ, suc, _≤_, _<_}
 use native.Mathlib.Omega.{arith}
 use native.Mathlib.Nat.{le-refl}
@@ -10,10 +10,11 @@ use borrow.Author.Tests.{eqb-true, eqb-false, ne-eqb, leb-false, le-leb, lt-leb,
 use lib.Dec.{eqb, leb, ltb}
 use Rattle.bits.specs.Sets.{any, all}
 use Rattle.model.specs.declared.Command.{Command}
-use Rattle.model.specs.declared.Command.the-variants.{Create, Delete, Allow, Withdraw, Lend, Recall, Shift}
-use Rattle.model.specs.Commands.{argumentsOf}
-use Rattle.model.specs.Journal.{Loan, Journal, loan, sameLoan, loanNames, carries, isDated, standingLoan, facts, answered, fresh, apply, step, run, Throughout, isPlain}
+use Rattle.model.specs.declared.Command.the-variants.{Create, Delete, Allow, Withdraw, Lend, Recall, Shift, AllowSet}
+use Rattle.model.specs.Commands.{argumentsOf, membersOf}
+use Rattle.model.specs.Journal.{Loan, Journal, grant, loan, sameLoan, loanNames, carries, isDated, standingLoan, facts, answered, fresh, apply, step, run, Throughout, isPlain}
 use Rattle.bits.proofs.Sets.{by-cases, fst, snd, or-right, any-same, any-add}
+use Rattle.model.proofs.AllowSet.{loans-granted, shift-granted}
 use Rattle.model.proofs.Invariant.{accepted, any-less, neither, same-loan}
 
 -- ---- which loans carry
@@ -58,6 +59,8 @@ shift-apply j (Shift by now) d e =
     unless : (a b : Bool) → b ≡ true → a && b ≡ false → a ≡ false
     unless false b d e = refl
     unless true b d e = absurd (false≢true (sym e ∙ d))
+shift-apply j (AllowSet by set on right depth) d e =
+    let q = shift-granted (map (λ i. grant i on right depth) (membersOf set)) j in rw q (le-refl (j .shift))
 
 pub shift-step : (j : Journal) (c : Command) → any isDated (j .loans) ≡ true → j .shift ≤ step j c .shift
 shift-step j c d = go (eqb (answered j c) 0) refl
@@ -98,6 +101,9 @@ plain-apply j (Lend by to on right depth last) h u =
 plain-apply j (Recall by to on right depth last) h u =
     record { shift = u .shift; loans = any-less isDated (λ l. not (sameLoan (loan by on right to depth last) l)) (j .loans) (u .loans) }
 plain-apply j (Shift by now) h u = absurd (false≢true h)
+plain-apply j (AllowSet by set on right depth) h u =
+    let gs = map (λ i. grant i on right depth) (membersOf set) in
+    record { shift = shift-granted gs j ∙ u .shift; loans = ap (any isDated) (loans-granted gs j) ∙ u .loans }
 
 plain-step : (j : Journal) (c : Command) → isPlain c ≡ true → Undated j → Undated (step j c)
 plain-step j c h u = by-cases (eqb (answered j c) 0) (λ e. rw e (plain-apply j c h u)) (λ e. rw e u)

@@ -2,23 +2,38 @@
 -- layouts and delegation, which say what the images do.
 use mathlib.Core.Path.{_≡_, refl, ap, _∙_}
 use mathlib.Core.Bool.{Bool, true, false, not, _&&_, _||_, cond, false≢true}
-use mathlib.Core.List.{List, [], _∷_}
+use mathlib.Core.List.{List, [], _∷_, map}
 use Prim.Native.Nat.{ℕ}
 use borrow.Author.Tests.{eqb-true, eq-eqb}
-use lib.Dec.{eqb}
+use lib.Dec.{eqb, leb}
 use Rattle.model.specs.declared.Command.{Command}
-use Rattle.model.specs.declared.Command.the-variants.{Create, Delete, Allow, Withdraw, Lend, Recall, Shift}
-use Rattle.bits.specs.Sets.{keep, add}
-use Rattle.model.specs.Commands.{items, rightDepth, argumentsOf, fits}
+use Rattle.model.specs.declared.Command.the-variants.{Create, Delete, Allow, Withdraw, Lend, Recall, Shift, AllowSet}
+use Rattle.bits.specs.Sets.{any, all, keep, add}
+use Rattle.model.specs.Commands.{items, rightDepth, argumentsOf, fits, membersOf}
 use Rattle.model.specs.Answers.{flat}
-use Rattle.model.specs.Journal.{Journal, grant, loan, sameGrant, sameLoan, isTo, names, loanNames, lives, facts, answered, fresh, apply, step, run}
+use Rattle.model.specs.Journal.{Grant, Journal, grant, grantedAll, loan, sameGrant, sameLoan, isTo, names, loanNames, lives, facts, answered, fresh, apply, step, run}
 use Rattle.bits.proofs.Sets.{fst, snd, both, or-left, or-right, all-mono, all-keep, all-add}
 use Rattle.model.proofs.Answers.{LoanFree}
 use Rattle.model.proofs.Commands.{ranged-command}
-use Rattle.model.proofs.Invariant.{eqb-sym, neither, accepted, both-live, lives-create, lives-delete, inv-fresh, grow, loans-fresh, keep-loans, few-add, grow-loan, distinct-add}
+use Rattle.model.proofs.AllowSet.{alive, ready, live-granted, loans-granted, shift-granted, all-granted}
+use Rattle.model.proofs.Invariant.{eqb-sym, neither, accepted, named-live, lives-create, lives-delete, inv-fresh, grow, loans-fresh, keep-loans, few-add, grow-loan, distinct-add}
 use Rattle.model.specs.Invariant.{ranged, sound, Inv, rangedLoan, soundLoan, LoanInv, Kept, Alike}
 
 -- ---- what every journal keeps of its live items and grants
+-- the grants of a team are sound
+team-sound : (j : Journal) (f : ℕ → Bool) (on right depth : ℕ) → ((i : ℕ) → lives j i ≡ true → f i ≡ true)
+    → items on on && rightDepth right depth ≡ true → lives j on ≡ true → (is : List ℕ) → all (alive j) is ≡ true
+    → all (sound f) (map (λ i. grant i on right depth) is) ≡ true
+unfolding all
+team-sound j f on right depth up w l [] h = refl
+team-sound j f on right depth up w l (i ∷ is) h =
+    let k : alive j i ≡ true = fst (alive j i) (all (alive j) is) h in
+    let b : leb i 63 ≡ true = fst (leb i 63) (lives j i) k in
+    let o : leb on 63 ≡ true = search (fst, snd) in
+    let d : rightDepth right depth ≡ true = snd (items on on) (rightDepth right depth) w in
+    both (both (both (both b o) d) (both (up i (snd (leb i 63) (lives j i) k)) (up on l)))
+    (team-sound j f on right depth up w l is (snd (alive j i) (all (alive j) is) h))
+
 inv-apply : (j : Journal) (c : Command) → Inv j → answered j c ≡ 0 → Inv (apply j c)
 inv-apply j (Create by on) v e =
     let k = accepted (facts j (argumentsOf (Create by on))) (argumentsOf (Create by on)) e in
@@ -51,7 +66,7 @@ inv-apply j (Delete by on) v e =
 inv-apply j (Allow by to on right depth) v e =
     let k = accepted (facts j (argumentsOf (Allow by to on right depth))) (argumentsOf (Allow by to on right depth)) e in
     let r : items to on && rightDepth right depth ≡ true = let h = k .fits in search (fst, snd, both) in
-    let l = both-live (lives j on) (lives j to) (k .named) in
+    let l = named-live (lives j on) (lives j to) _ (k .named) in
     record {
       root = v .root;
       grants-sound =
@@ -67,6 +82,19 @@ inv-apply j (Withdraw by to on right) v e =
 inv-apply j (Lend by to on right depth last) v e = record { root = v .root; grants-sound = v .grants-sound }
 inv-apply j (Recall by to on right depth last) v e = record { root = v .root; grants-sound = v .grants-sound }
 inv-apply j (Shift by now) v e = record { root = v .root; grants-sound = v .grants-sound }
+inv-apply j (AllowSet by set on right depth) v e =
+    let gs = map (λ i. grant i on right depth) (membersOf set) in
+    let up : (i : ℕ) → lives (grantedAll j gs) i ≡ lives j i = λ i. ap (any (eqb i)) (live-granted gs j) in
+    let k = ready by on right depth j set e in
+    let w : items on on && rightDepth right depth ≡ true = let h = k .0 .within in search (fst, snd, both) in
+    record {
+      root = up 0 ∙ v .root;
+      grants-sound =
+          all-granted (sound (lives (grantedAll j gs))) gs j
+          (team-sound j (lives (grantedAll j gs)) on right depth (λ i h. up i ∙ h) w (k .0 .on-lives) (membersOf set) (k .1))
+          (all-mono (sound (lives j)) (sound (lives (grantedAll j gs))) (j .grants) (v .grants-sound)
+          (grow (lives j) (lives (grantedAll j gs)) (λ i h. up i ∙ h)));
+    }
 
 pub inv-step : (j : Journal) (c : Command) → Inv j → Inv (step j c)
 inv-step j c v = go (eqb (answered j c) 0) refl
@@ -106,11 +134,23 @@ loans-apply j (Delete by on) v e =
     }
 loans-apply j (Allow by to on right depth) v e =
     record { loans-sound = v .loans-sound; loans-distinct = v .loans-distinct; loans-few = v .loans-few; shift-in = v .shift-in }
+loans-apply j (AllowSet by set on right depth) v e =
+    let gs = map (λ i. grant i on right depth) (membersOf set) in
+    let up : (i : ℕ) → lives j i ≡ true → lives (grantedAll j gs) i ≡ true = λ i h. ap (any (eqb i)) (live-granted gs j) ∙ h in
+    record {
+      loans-sound =
+          rw (loans-granted gs j)
+          (all-mono (soundLoan (lives j)) (soundLoan (lives (grantedAll j gs))) (j .loans) (v .loans-sound)
+          (λ l h. grow-loan (lives j) (lives (grantedAll j gs)) l up h));
+      loans-distinct = rw (loans-granted gs j) (v .loans-distinct);
+      loans-few = rw (loans-granted gs j) (v .loans-few);
+      shift-in = rw (shift-granted gs j) (v .shift-in);
+    }
 loans-apply j (Withdraw by to on right) v e =
     record { loans-sound = v .loans-sound; loans-distinct = v .loans-distinct; loans-few = v .loans-few; shift-in = v .shift-in }
 loans-apply j (Lend by to on right depth last) v e =
     let k = accepted (facts j (argumentsOf (Lend by to on right depth last))) (argumentsOf (Lend by to on right depth last)) e in
-    let l = both-live (lives j on) (lives j to) (k .named) in
+    let l = named-live (lives j on) (lives j to) _ (k .named) in
     record {
       loans-sound =
           all-add (soundLoan (lives j)) sameLoan (loan by on right to depth last) (j .loans)
@@ -165,6 +205,12 @@ flat-lends (Withdraw by to on right) h = record { back = refl; past = refl; full
 flat-lends (Lend by to on right depth last) h = absurd (false≢true h)
 flat-lends (Recall by to on right depth last) h = record { back = refl; past = refl; full = refl }
 flat-lends (Shift by now) h = absurd (false≢true h)
+flat-lends (AllowSet by set on right depth) h = record { back = refl; past = refl; full = refl }
+
+-- the same grants added to both
+alike-granted : (gs : List Grant) {j k : Journal} → Alike j k → Alike (grantedAll j gs) (grantedAll k gs)
+alike-granted [] a = a
+alike-granted (g ∷ gs) a = alike-granted gs (record { live = a .live; grants = ap (add sameGrant g) (a .grants) })
 
 -- what lists and rows lack leaves both alone
 pub alike-apply : {j k : Journal} → Alike j k → (c : Command) → Alike (apply j c) (cond (flat c) (apply k c) k)
@@ -176,3 +222,4 @@ alike-apply a (Withdraw by to on right) = record { live = a .live; grants = ap (
 alike-apply a (Lend by to on right depth last) = record { live = a .live; grants = a .grants }
 alike-apply a (Recall by to on right depth last) = record { live = a .live; grants = a .grants }
 alike-apply a (Shift by now) = record { live = a .live; grants = a .grants }
+alike-apply a (AllowSet by set on right depth) = alike-granted (map (λ i. grant i on right depth) (membersOf set)) a

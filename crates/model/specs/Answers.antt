@@ -16,7 +16,7 @@ use Rattle.model.specs.declared.ChainChecked.{ChainChecked}
 use Rattle.model.specs.declared.ChainChecked.the-variants as chain
 use Rattle.model.specs.declared.Answer.{Answer}
 use Rattle.model.specs.declared.Answer.the-variants as is
-use Rattle.model.specs.Commands.{argumentsOf, fits, items, rightDepth}
+use Rattle.model.specs.Commands.{argumentsOf, fits, items, rightDepth, isEmpty}
 
 -- n when the test holds, else m: a row of the table, then the rows below it
 infixr 10 _when_else_
@@ -39,6 +39,7 @@ numberOf is.Full = 10
 numberOf is.Malformed = 11
 numberOf is.ShiftBack = 12
 numberOf is.LastPast = 13
+numberOf is.EmptySet = 14
 
 -- the answer whose number is n
 unfoldable pub answerFor : ℕ → Answer
@@ -56,7 +57,8 @@ answerFor n =
     cond (eqb n 10) is.Full (
     cond (eqb n 12) is.ShiftBack (
     cond (eqb n 13) is.LastPast (
-    is.Malformed)))))))))))))
+    cond (eqb n 14) is.EmptySet (
+    is.Malformed))))))))))))))
 
 -- r is that answer, and n its number
 abbrev pub Numbered : Answer → ℕ → Type 0
@@ -119,24 +121,28 @@ knows verb.Withdraw n = eqb n 5 || eqb n 8
 knows verb.Lend n = eqb n 5 || eqb n 9 || eqb n 13 || eqb n 10
 knows verb.Recall n = eqb n 5
 knows verb.Shift n = eqb n 8 || eqb n 12
+knows verb.AllowSet n = eqb n 14 || eqb n 5 || eqb n 8
 
--- 'Each has the first four commands': lists and rows are called for what changes every image alike
+-- 'Each has the first four commands', and of allowset 'all units .. have it': lists and rows are called for what changes every image alike
 abbrev pub flatEdit : Edit → Bool
 flatEdit edit.Create = true
 flatEdit edit.Delete = true
 flatEdit edit.Allow = true
 flatEdit edit.Withdraw = true
+flatEdit edit.AllowSet = true
 flatEdit edit.Nothing = false
 
 -- lists and rows have the command
 abbrev pub flat : Command → Bool
 flat c = flatEdit (argumentsOf c .edit)
 
--- 'The lowest number that applies is given': the rows past 3, in their order, with '12 .. after 8; 13, for lend only, .. between 9 and 10'
+-- 'The lowest number that applies is given': the rows past 3, in their order, with '14 when the set is empty, straight after 3' and
+-- '12 .. after 8; 13, for lend only, .. between 9 and 10'
 abbrev pub table : Facts → Arguments → ℕ
 table f a =
+    14 when knows (a .verb) 14 && isEmpty (a .set) else
     4 when not (f .by) else
-    5 when knows (a .verb) 5 && not (f .on && f .to) else
+    5 when knows (a .verb) 5 && not (f .on && f .to && f .members) else
     6 when knows (a .verb) 6 && f .on else
     7 when knows (a .verb) 7 && eqb (a .on) 0 else
     8 when knows (a .verb) 8 && not (f .edits) else

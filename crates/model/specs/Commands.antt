@@ -1,10 +1,14 @@
--- Items, rights, depths and shifts: the limits of documents 01 and 02, and the arguments of a command, raw and within their limits.
+-- Items, rights, depths, shifts and sets of items: the limits of documents 01 and 02, and the arguments of a command, raw and within
+-- their limits.
 -- The commands are the enum `Command` of src/; its numbers are any numbers here.
 use mathlib.Core.Bool.{Bool, _&&_, cond}
+use mathlib.Core.List.{List}
 use Prim.Native.Nat.{ℕ, _≤_}
-use lib.Dec.{leb}
+use lib.Dec.{eqb, leb}
+use lib.ListN.{length}
+use Rattle.bits.specs.Bits.{members}
 use Rattle.model.specs.declared.Command.{Command}
-use Rattle.model.specs.declared.Command.the-variants.{Create, Delete, Allow, Withdraw, Lend, Recall, Shift}
+use Rattle.model.specs.declared.Command.the-variants.{Create, Delete, Allow, Withdraw, Lend, Recall, Shift, AllowSet}
 use Rattle.model.specs.declared.Verb.{Verb}
 use Rattle.model.specs.declared.Verb.the-variants as verb
 use Rattle.model.specs.declared.Edit.{Edit}
@@ -24,22 +28,32 @@ use Rattle.model.specs.declared.ShiftRead.the-variants as shiftRead
 use Rattle.model.specs.declared.Question.{Question}
 use Rattle.model.specs.declared.Question.the-variants as question
 
--- ---- the arguments; a command without a `to` names `on` alone, one without a right, a depth or a shift has 0 there
-abbrev pub arguments : Verb → Edit → ℕ → ℕ → ℕ → ℕ → ℕ → ℕ → Arguments
-arguments v e by to on right depth shift =
-    record { verb = v; edit = e; by = by; to = to; on = on; right = right; depth = depth; shift = shift }
+-- ---- the arguments; a command without a `to` names `on` alone, one without a right, a depth, a shift or a set has 0 there
+abbrev pub arguments : Verb → Edit → ℕ → ℕ → ℕ → ℕ → ℕ → ℕ → ℕ → Arguments
+arguments v e by to on right depth shift set =
+    record { verb = v; edit = e; by = by; to = to; on = on; right = right; depth = depth; shift = shift; set = set }
 
 -- each command's arguments, in the order in which the paper names them
 abbrev pub argumentsOf : Command → Arguments
-argumentsOf (Create by on) = arguments verb.Create edit.Create by on on 0 0 0
-argumentsOf (Delete by on) = arguments verb.Delete edit.Delete by on on 0 0 0
-argumentsOf (Allow by to on right depth) = arguments verb.Allow edit.Allow by to on right depth 0
-argumentsOf (Withdraw by to on right) = arguments verb.Withdraw edit.Withdraw by to on right 0 0
+argumentsOf (Create by on) = arguments verb.Create edit.Create by on on 0 0 0 0
+argumentsOf (Delete by on) = arguments verb.Delete edit.Delete by on on 0 0 0 0
+argumentsOf (Allow by to on right depth) = arguments verb.Allow edit.Allow by to on right depth 0 0
+argumentsOf (Withdraw by to on right) = arguments verb.Withdraw edit.Withdraw by to on right 0 0 0
 -- 'lend and recall gain `last` at the end'
-argumentsOf (Lend by to on right depth last) = arguments verb.Lend edit.Nothing by to on right depth last
-argumentsOf (Recall by to on right depth last) = arguments verb.Recall edit.Nothing by to on right depth last
+argumentsOf (Lend by to on right depth last) = arguments verb.Lend edit.Nothing by to on right depth last 0
+argumentsOf (Recall by to on right depth last) = arguments verb.Recall edit.Nothing by to on right depth last 0
 -- '`do=shift by now` .. needs edit on item 0', which is the item it is about
-argumentsOf (Shift by now) = arguments verb.Shift edit.Nothing by 0 0 0 0 now
+argumentsOf (Shift by now) = arguments verb.Shift edit.Nothing by 0 0 0 0 now 0
+-- '`allowset` takes by, set .., on, right, depth'
+argumentsOf (AllowSet by set on right depth) = arguments verb.AllowSet edit.AllowSet by on on right depth 0 set
+
+-- 'a 64-bit number, .. bit i for item i': the members of a set, rising
+abbrev pub membersOf : ℕ → List ℕ
+membersOf set = members 64 set
+
+-- 'the set is empty'
+abbrev pub isEmpty : ℕ → Bool
+isEmpty set = eqb (length (membersOf set)) 0
 
 -- ---- the limits
 -- 'An item is .. numbered 0 to 63': two of them
@@ -58,7 +72,7 @@ shifts n = leb n 255
 abbrev pub mostLoans : ℕ
 mostLoans = 1024
 
--- every argument is within its limit
+-- every argument is within its limit; a set has none
 abbrev pub fits : Arguments → Bool
 fits a = items (a .by) (a .to) && items (a .to) (a .on) && rightDepth (a .right) (a .depth) && shifts (a .shift)
 
@@ -71,7 +85,7 @@ pub record Ranged (a : Arguments) : Type 0 where
   pub depth : a .depth ≤ 7
   pub shift : a .shift ≤ 255
 
--- the arguments as items, rights, depths and shifts
+-- the arguments as items, rights, depths, shifts and sets
 abbrev pub typedOf : Arguments → Typed
 typedOf a = record {
   verb = a .verb;
@@ -82,11 +96,12 @@ typedOf a = record {
   right = record { 0 = a .right };
   depth = record { 0 = a .depth };
   shift = record { 0 = a .shift };
+  set = record { 0 = a .set };
 }
 
 -- and back
 abbrev pub rawOf : Typed → Arguments
-rawOf t = arguments (t .verb) (t .edit) (t .by .0) (t .to .0) (t .on .0) (t .right .0) (t .depth .0) (t .shift .0)
+rawOf t = arguments (t .verb) (t .edit) (t .by .0) (t .to .0) (t .on .0) (t .right .0) (t .depth .0) (t .shift .0) (t .set .0)
 
 -- number 3 is `Beyond`
 abbrev pub withinOf : Arguments → Within

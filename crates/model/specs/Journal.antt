@@ -3,17 +3,17 @@
 -- (document 02: 'the journal has the shift in its state').
 use mathlib.Core.Path.{_≡_}
 use mathlib.Core.Bool.{Bool, true, false, not, _&&_, _||_, cond}
-use mathlib.Core.List.{List, [], _∷_}
-use Prim.Native.Nat.{ℕ}
+use mathlib.Core.List.{List, [], _∷_, map}
+use Prim.Native.Nat.{ℕ, min}
 use lib.ListN.{length}
 use lib.Dec.{eqb, leb, ltb}
 use Rattle.model.specs.declared.Command.{Command}
-use Rattle.model.specs.declared.Command.the-variants.{Create, Delete, Allow, Withdraw, Lend, Recall, Shift}
+use Rattle.model.specs.declared.Command.the-variants.{Create, Delete, Allow, Withdraw, Lend, Recall, Shift, AllowSet}
 use Rattle.model.specs.declared.Arguments.{Arguments}
 use Rattle.model.specs.declared.Facts.{Facts}
-use Rattle.bits.specs.Sets.{any, keep, add}
-use Rattle.model.specs.Commands.{argumentsOf, mostLoans}
-use Rattle.model.specs.Answers.{answer}
+use Rattle.bits.specs.Sets.{any, all, keep, add}
+use Rattle.model.specs.Commands.{argumentsOf, fits, membersOf, isEmpty, mostLoans}
+use Rattle.model.specs.Answers.{answer, _when_else_}
 
 -- 'a set of grants (person, item, right, depth)'
 pub record Grant : Type 0 where
@@ -101,26 +101,60 @@ LoanCarries j o r l = (standingLoan j l ≡ true) × (l .item ≡ o) × (l .righ
 abbrev pub loanIn : Arguments → Loan
 loanIn a = loan (a .by) (a .on) (a .right) (a .to) (a .depth) (a .shift)
 
--- what the table of answers asks of the journal; back: 'the new shift is below the present one and such a loan stands'; past: 'last is
--- set and below the present shift'; full: '1,024 loans stand and this is not one of them'
+-- what the table of answers asks of the journal; members: every member of the set lives; back: 'the new shift is below the present one
+-- and such a loan stands'; past: 'last is set and below the present shift'; full: '1,024 loans stand and this is not one of them'
 abbrev pub facts : Journal → Arguments → Facts
 facts j a = record {
   by = lives j (a .by);
   on = lives j (a .on);
   to = lives j (a .to);
+  members = all (lives j) (membersOf (a .set));
   edits = hasGrant j (a .by) (a .on) 0;
   back = ltb (a .shift) (j .shift) && any isDated (j .loans);
   past = not (carries (j .shift) (a .shift));
   full = leb mostLoans (length (j .loans)) && not (standingLoan j (loanIn a));
 }
 
--- a command's number
+-- a command's number by the table
+abbrev pub tabled : Journal → Command → ℕ
+tabled j c = answer (facts j (argumentsOf c)) (argumentsOf c)
+
+-- 'the single allows' of an allowset: one for each of these persons
+abbrev pub singles : List ℕ → ℕ → ℕ → ℕ → ℕ → List Command
+singles persons by on right depth = map (λ to. Allow by to on right depth) persons
+
+-- the lowest of some numbers that refuse; 0 where none does
+unfoldable pub lowest : List ℕ → ℕ
+lowest [] = 0
+lowest (n ∷ ns) = cond (eqb n 0) (lowest ns) (cond (eqb (lowest ns) 0) n (min n (lowest ns)))
+
+-- a command's number; of allowset 'the lowest refusal's number, if any of them is refused', and '14 when the set is empty, straight
+-- after 3'. The table gives it that number too (`answered-table`)
 abbrev pub answered : Journal → Command → ℕ
-answered j c = answer (facts j (argumentsOf c)) (argumentsOf c)
+answered j (Create by on) = tabled j (Create by on)
+answered j (Delete by on) = tabled j (Delete by on)
+answered j (Allow by to on right depth) = tabled j (Allow by to on right depth)
+answered j (Withdraw by to on right) = tabled j (Withdraw by to on right)
+answered j (Lend by to on right depth last) = tabled j (Lend by to on right depth last)
+answered j (Recall by to on right depth last) = tabled j (Recall by to on right depth last)
+answered j (Shift by now) = tabled j (Shift by now)
+answered j (AllowSet by set on right depth) =
+    3 when not (fits (argumentsOf (AllowSet by set on right depth))) else
+    14 when isEmpty set else
+    lowest (map (tabled j) (singles (membersOf set) by on right depth))
 
 -- 'Fresh: item 0 lives, and one grant stands, to 0 on 0, right 0, depth 0'; 'fresh shift 0'
 unfoldable pub fresh : Journal
 fresh = record { live = 0 ∷ []; grants = grant 0 0 0 0 ∷ []; loans = []; shift = 0 }
+
+-- 'that grant stands. An equal one already standing changes nothing'
+abbrev pub granted : Journal → Grant → Journal
+granted j g = record { live = j .live; grants = add sameGrant g (j .grants); loans = j .loans; shift = j .shift }
+
+-- the same of several grants, one after the other
+abbrev pub grantedAll : Journal → List Grant → Journal
+grantedAll j [] = j
+grantedAll j (g ∷ gs) = grantedAll (granted j g) gs
 
 -- what an accepted command does
 abbrev pub apply : Journal → Command → Journal
@@ -136,8 +170,7 @@ apply j (Delete by on) =
       shift = j .shift;
     }
 -- 'that grant stands. An equal one already standing changes nothing'
-apply j (Allow by to on right depth) =
-    record { live = j .live; grants = add sameGrant (grant to on right depth) (j .grants); loans = j .loans; shift = j .shift }
+apply j (Allow by to on right depth) = granted j (grant to on right depth)
 -- 'every depth granted to that person there ends .. Loans stay'
 apply j (Withdraw by to on right) =
     record { live = j .live; grants = keep (λ g. not (isTo to on right g)) (j .grants); loans = j .loans; shift = j .shift }
@@ -154,6 +187,9 @@ apply j (Recall by to on right depth last) =
     }
 -- '`do=shift by now` sets the shift'
 apply j (Shift by now) = record { live = j .live; grants = j .grants; loans = j .loans; shift = now }
+-- 'It does what the single allows do in any order': here in the rising order of the members; any other leaves the same sets
+-- (`journal-allowset`)
+apply j (AllowSet by set on right depth) = grantedAll j (map (λ to. grant to on right depth) (membersOf set))
 
 -- 'a refused command changes nothing in it'
 abbrev pub step : Journal → Command → Journal
@@ -169,7 +205,7 @@ abbrev pub Throughout : (Journal → Bool) → Journal → List Command → Type
 Throughout p j [] = p j ≡ true
 Throughout p j (c ∷ cs) = (p j ≡ true) × Throughout p (step j c) cs
 
--- a command as document 01 has it: '`last` .. 0 in document 01's listing and examples', and no shift
+-- a command that names no shift: '`last` .. 0 in document 01's listing and examples', and no shift command
 abbrev pub isPlain : Command → Bool
 isPlain (Create by on) = true
 isPlain (Delete by on) = true
@@ -178,3 +214,4 @@ isPlain (Withdraw by to on right) = true
 isPlain (Lend by to on right depth last) = eqb last 0
 isPlain (Recall by to on right depth last) = eqb last 0
 isPlain (Shift by now) = false
+isPlain (AllowSet by set on right depth) = true

@@ -1,6 +1,8 @@
-// Items, rights, depths and shifts, the commands that carry them, and the one table of refusals.
+// Items, rights, depths, shifts and sets of items, the commands that carry them, and the one table of refusals.
 ghost use mathlib.Core.Path.{_≡_};
-ghost use Rattle.model.specs.Commands.{items, rightDepth, shifts, arguments, argumentsOf, fits, typedOf, withinOf, rawOf, questionOf, itemOf, rightOf, depthOf, shiftOf};
+ghost use Rattle.model.specs.declared.Command.the-variants.{Withdraw, AllowSet};
+ghost use Rattle.model.specs.declared.Command.the-variants as command;
+ghost use Rattle.model.specs.Commands.{items, rightDepth, shifts, arguments, argumentsOf, isEmpty, fits, typedOf, withinOf, rawOf, questionOf, itemOf, rightOf, depthOf, shiftOf};
 ghost use Rattle.model.specs.Answers.{numberOf, answerFor, checkedOf, flatEdit, flat, knows, table, _when_else_};
 
 // An item number, 0 to 63.
@@ -14,6 +16,9 @@ pub struct Depth(u32);
 
 // A shift, 0 to 255. As the last shift of a loan, 0 says that the loan is open-ended.
 pub struct Shift(u32);
+
+// A set of items, bit i for item i. Every number of 64 bits is one.
+pub struct ItemSet(u64);
 
 impl Item {
     pub const MAX: u32 = 63;
@@ -123,6 +128,27 @@ impl Shift {
     }
 }
 
+// Whether a number of 64 bits is the empty set.
+fn is_empty_set(n: u64) -> bool
+    ensures { λ r. ⌜ r ≡ isEmpty n ⌝ }
+{
+    n == 0
+}
+
+impl ItemSet {
+    pub fn is_empty(self) -> bool
+        ensures { λ r. ⌜ r ≡ isEmpty (self .0) ⌝ }
+    {
+        is_empty_set(self.0)
+    }
+
+    pub fn number(self) -> u64
+        ensures { λ r. ⌜ r ≡ self .0 ⌝ }
+    {
+        self.0
+    }
+}
+
 // What a number is as an item.
 pub enum ItemRead {
     Within(Item),
@@ -190,6 +216,13 @@ pub enum Command {
         by: u32,
         now: u32,
     },
+    AllowSet {
+        by: u32,
+        set: u64,
+        on: u32,
+        right: u32,
+        depth: u32,
+    },
 }
 
 // What a command says to do.
@@ -201,6 +234,7 @@ pub enum Verb {
     Lend,
     Recall,
     Shift,
+    AllowSet,
 }
 
 // What a command changes in lists, rows and the grants of a chain unit alike.
@@ -209,6 +243,7 @@ pub enum Edit {
     Delete,
     Allow,
     Withdraw,
+    AllowSet,
     Nothing,
 }
 
@@ -222,6 +257,7 @@ pub struct Arguments {
     pub right: u32,
     pub depth: u32,
     pub shift: u32,
+    pub set: u64,
 }
 
 // The same, each number within its range.
@@ -234,6 +270,7 @@ pub struct Typed {
     pub right: Right,
     pub depth: Depth,
     pub shift: Shift,
+    pub set: ItemSet,
 }
 
 pub enum Within {
@@ -241,12 +278,13 @@ pub enum Within {
     Beyond,
 }
 
-// What the table asks of a state for one command: whether by, on and to live, by edits on, the shift goes back while a loan has a last
-// one, the loan is past its last shift, and loans are full.
+// What the table asks of a state for one command: whether by, on and to live, every member of the set lives, by edits on, the shift
+// goes back while a loan has a last one, the loan is past its last shift, and loans are full.
 pub struct Facts {
     pub by: bool,
     pub on: bool,
     pub to: bool,
+    pub members: bool,
     pub edits: bool,
     pub back: bool,
     pub past: bool,
@@ -269,6 +307,7 @@ pub enum Answer {
     Malformed,
     ShiftBack,
     LastPast,
+    EmptySet,
 }
 
 impl Answer {
@@ -290,6 +329,7 @@ impl Answer {
             Answer::Malformed => 11,
             Answer::ShiftBack => 12,
             Answer::LastPast => 13,
+            Answer::EmptySet => 14,
         }
     }
 }
@@ -383,6 +423,7 @@ impl Verb {
             Verb::Lend => (n == 5) | (n == 9) | (n == 13) | (n == 10),
             Verb::Recall => n == 5,
             Verb::Shift => (n == 8) | (n == 12),
+            Verb::AllowSet => (n == 14) | (n == 5) | (n == 8),
         }
     }
 }
@@ -397,12 +438,14 @@ impl Edit {
             Edit::Delete => true,
             Edit::Allow => true,
             Edit::Withdraw => true,
+            Edit::AllowSet => true,
             Edit::Nothing => false,
         }
     }
 }
 
 impl Arguments {
+    // Without a set.
     fn of(
         verb: Verb,
         edit: Edit,
@@ -413,7 +456,7 @@ impl Arguments {
         depth: u32,
         shift: u32,
     ) -> Arguments
-        ensures { λ r. ⌜ r ≡ arguments verb edit by to on right depth shift ⌝ }
+        ensures { λ r. ⌜ r ≡ arguments verb edit by to on right depth shift 0 ⌝ }
     {
         Arguments {
             verb,
@@ -424,6 +467,42 @@ impl Arguments {
             right,
             depth,
             shift,
+            set: 0,
+        }
+    }
+
+    // Of a command about an item alone.
+    fn of_item(verb: Verb, edit: Edit, by: u32, on: u32) -> Arguments
+        ensures { λ r. ⌜ r ≡ arguments verb edit by on on 0 0 0 0 ⌝ }
+    {
+        Arguments::of(verb, edit, by, on, on, 0, 0, 0)
+    }
+
+    fn of_withdraw(by: u32, to: u32, on: u32, right: u32) -> Arguments
+        ensures { λ r. ⌜ r ≡ argumentsOf (Withdraw by to on right) ⌝ }
+    {
+        Arguments::of(Verb::Withdraw, Edit::Withdraw, by, to, on, right, 0, 0)
+    }
+
+    fn of_shift(by: u32, shift: u32) -> Arguments
+        ensures { λ r. ⌜ r ≡ argumentsOf (command.Shift by shift) ⌝ }
+    {
+        Arguments::of(Verb::Shift, Edit::Nothing, by, 0, 0, 0, 0, shift)
+    }
+
+    fn of_set(by: u32, set: u64, on: u32, right: u32, depth: u32) -> Arguments
+        ensures { λ r. ⌜ r ≡ argumentsOf (AllowSet by set on right depth) ⌝ }
+    {
+        Arguments {
+            verb: Verb::AllowSet,
+            edit: Edit::AllowSet,
+            by,
+            to: on,
+            on,
+            right,
+            depth,
+            shift: 0,
+            set,
         }
     }
 
@@ -451,22 +530,19 @@ impl Arguments {
             right: Right(self.right),
             depth: Depth(self.depth),
             shift: Shift(self.shift),
+            set: ItemSet(self.set),
         }
     }
 }
 
 impl Command {
-    // One without a to names on alone, one without a right, a depth or a shift has 0 there. Shift is about item 0.
+    // One without a to names on alone, one without a right, a depth, a shift or a set has 0 there. Shift is about item 0.
     pub fn arguments(self) -> Arguments
         ensures { λ r. ⌜ r ≡ argumentsOf self ⌝ }
     {
         match self {
-            Command::Create { by, on } => {
-                Arguments::of(Verb::Create, Edit::Create, by, on, on, 0, 0, 0)
-            }
-            Command::Delete { by, on } => {
-                Arguments::of(Verb::Delete, Edit::Delete, by, on, on, 0, 0, 0)
-            }
+            Command::Create { by, on } => Arguments::of_item(Verb::Create, Edit::Create, by, on),
+            Command::Delete { by, on } => Arguments::of_item(Verb::Delete, Edit::Delete, by, on),
             Command::Allow {
                 by,
                 to,
@@ -474,9 +550,7 @@ impl Command {
                 right,
                 depth,
             } => Arguments::of(Verb::Allow, Edit::Allow, by, to, on, right, depth, 0),
-            Command::Withdraw { by, to, on, right } => {
-                Arguments::of(Verb::Withdraw, Edit::Withdraw, by, to, on, right, 0, 0)
-            }
+            Command::Withdraw { by, to, on, right } => Arguments::of_withdraw(by, to, on, right),
             Command::Lend {
                 by,
                 to,
@@ -493,9 +567,14 @@ impl Command {
                 depth,
                 last,
             } => Arguments::of(Verb::Recall, Edit::Nothing, by, to, on, right, depth, last),
-            Command::Shift { by, now } => {
-                Arguments::of(Verb::Shift, Edit::Nothing, by, 0, 0, 0, 0, now)
-            }
+            Command::Shift { by, now } => Arguments::of_shift(by, now),
+            Command::AllowSet {
+                by,
+                set,
+                on,
+                right,
+                depth,
+            } => Arguments::of_set(by, set, on, right, depth),
         }
     }
 
@@ -530,13 +609,14 @@ fn row(applies: bool, answer: Answer, below: Answer) -> Answer
     below
 }
 
-// Numbers 4 to 8, 12, 9, 13 and 10, from the last row of the table up: the first that applies.
+// Numbers 14, 4 to 8, 12, 9, 13 and 10, from the last row of the table up: the first that applies.
 pub fn judge(t: Typed, f: Facts) -> Answer
     ensures { λ r. ⌜ r ≡ answerFor (table f (rawOf t)) ⌝ }
 {
     let verb = t.verb;
     let on = t.on;
     let right = t.right;
+    let set = t.set;
     let n = row(verb.knows(10) & f.full, Answer::Full, Answer::Done);
     let n = row(verb.knows(13) & f.past, Answer::LastPast, n);
     let n = row(verb.knows(9) & (right.0 == 0), Answer::EditRight, n);
@@ -544,6 +624,11 @@ pub fn judge(t: Typed, f: Facts) -> Answer
     let n = row(verb.knows(8) & !f.edits, Answer::NoEdit, n);
     let n = row(verb.knows(7) & (on.0 == 0), Answer::RootItem, n);
     let n = row(verb.knows(6) & f.on, Answer::AlreadyLive, n);
-    let n = row(verb.knows(5) & !(f.on & f.to), Answer::NamedDead, n);
-    row(!f.by, Answer::ByDead, n)
+    let n = row(
+        verb.knows(5) & !(f.on & f.to & f.members),
+        Answer::NamedDead,
+        n,
+    );
+    let n = row(!f.by, Answer::ByDead, n);
+    row(verb.knows(14) & set.is_empty(), Answer::EmptySet, n)
 }

@@ -1,6 +1,6 @@
 // The chain unit for C.
 use crate::reply;
-ghost use Rattle.model.specs.declared.Command.the-variants.{Create, Delete, Allow, Withdraw, Lend, Recall, Shift};
+ghost use Rattle.model.specs.declared.Command.the-variants.{Create, Delete, Allow, Withdraw, Lend, Recall, Shift, AllowSet};
 ghost use Rattle.delegation.specs.Images.{images};
 ghost use Rattle.delegation.specs.ChainUnit.{chainUnit};
 ghost use Rattle.rights_c.specs.Exports.{Gives, ChainFreshens, ChainAnswers, ChainInspects};
@@ -56,6 +56,23 @@ pub extern "C" fn rights_chains_allow(
         (images (now (grants .exit)) (now (loans .exit))) ⌝ }
 {
     let a = chains::allow(grants, loans, by, to, on, right, depth);
+    a.number()
+}
+
+#[no_mangle]
+pub extern "C" fn rights_chains_allow_set(
+    grants: &mut [u8],
+    loans: &mut [u32],
+    by: u32,
+    set: u64,
+    on: u32,
+    right: u32,
+    depth: u32,
+) -> u32
+    ensures { λ r. ⌜ Gives chainUnit (images (now (grants .entry)) (now (loans .entry))) (AllowSet by set on right depth) r
+        (images (now (grants .exit)) (now (loans .exit))) ⌝ }
+{
+    let a = chains::allow_set(grants, loans, by, set, on, right, depth);
     a.number()
 }
 

@@ -12,7 +12,7 @@ mod rows_unit;
 
 #[no_mangle]
 pub extern "C" fn rights_version() -> u32
-    ensures { λ r. ⌜ r ≡ 10200 ⌝ }
+    ensures { λ r. ⌜ r ≡ 10300 ⌝ }
 {
     Version::number()
 }

@@ -1,6 +1,6 @@
 // The lists unit for C.
 use crate::reply;
-ghost use Rattle.model.specs.declared.Command.the-variants.{Create, Delete, Allow, Withdraw};
+ghost use Rattle.model.specs.declared.Command.the-variants.{Create, Delete, Allow, Withdraw, AllowSet};
 ghost use Rattle.layouts.specs.Layouts.{lists, flatUnit};
 ghost use Rattle.rights_c.specs.Exports.{Gives, Freshens, Answers, Subjects, Inspects};
 
@@ -40,6 +40,21 @@ pub extern "C" fn rights_lists_allow(
     ensures { λ r. ⌜ Gives (flatUnit lists) (now (image .entry)) (Allow by to on right depth) r (now (image .exit)) ⌝ }
 {
     let a = lists::allow(image, by, to, on, right, depth);
+    a.number()
+}
+
+#[no_mangle]
+pub extern "C" fn rights_lists_allow_set(
+    image: &mut [u64],
+    by: u32,
+    set: u64,
+    on: u32,
+    right: u32,
+    depth: u32,
+) -> u32
+    ensures { λ r. ⌜ Gives (flatUnit lists) (now (image .entry)) (AllowSet by set on right depth) r (now (image .exit)) ⌝ }
+{
+    let a = lists::allow_set(image, by, set, on, right, depth);
     a.number()
 }
 

@@ -1,6 +1,6 @@
 // The rows unit for C.
 use crate::reply;
-ghost use Rattle.model.specs.declared.Command.the-variants.{Create, Delete, Allow, Withdraw};
+ghost use Rattle.model.specs.declared.Command.the-variants.{Create, Delete, Allow, Withdraw, AllowSet};
 ghost use Rattle.layouts.specs.Layouts.{rows, flatUnit};
 ghost use Rattle.rights_c.specs.Exports.{Gives, Freshens, Answers, Subjects, Inspects};
 
@@ -40,6 +40,21 @@ pub extern "C" fn rights_rows_allow(
     ensures { λ r. ⌜ Gives (flatUnit rows) (now (image .entry)) (Allow by to on right depth) r (now (image .exit)) ⌝ }
 {
     let a = rows::allow(image, by, to, on, right, depth);
+    a.number()
+}
+
+#[no_mangle]
+pub extern "C" fn rights_rows_allow_set(
+    image: &mut [u8],
+    by: u32,
+    set: u64,
+    on: u32,
+    right: u32,
+    depth: u32,
+) -> u32
+    ensures { λ r. ⌜ Gives (flatUnit rows) (now (image .entry)) (AllowSet by set on right depth) r (now (image .exit)) ⌝ }
+{
+    let a = rows::allow_set(image, by, set, on, right, depth);
     a.number()
 }
 

@@ -12,6 +12,7 @@ use model::Command;
 use model::Edit;
 use model::Facts;
 use model::Item;
+use model::ItemSet;
 use model::Offered;
 use model::Right;
 use model::SubjectSet;
@@ -20,12 +21,12 @@ use model::judge;
 ghost use mathlib.Core.Path.{_≡_};
 ghost use Prim.Native.Nat.{_+_, _*_, _<_};
 ghost use lib.ListN.{length, getD};
-ghost use Rattle.model.specs.declared.Command.the-variants.{Create, Delete, Allow, Withdraw};
+ghost use Rattle.model.specs.declared.Command.the-variants.{Create, Delete, Allow, Withdraw, AllowSet};
 ghost use Rattle.model.specs.Commands.{Ranged, rawOf};
 ghost use Rattle.model.specs.Answers.{numberOf};
 ghost use Rattle.model.specs.Journal.{grant};
 ghost use Rattle.layouts.specs.Machine.{Judged, Ran, Offers};
-ghost use Rattle.layouts.specs.Layouts.{rows, rowBytes, held, guarded, factsOf, created, deleted, allowed, withdrawn, after, flatUnit, Inspects, Checks, freshImage, Freshens};
+ghost use Rattle.layouts.specs.Layouts.{rows, rowBytes, held, guarded, factsOf, created, deleted, allowed, allowedSet, withdrawn, after, flatUnit, Inspects, Checks, freshImage, Freshens};
 ghost use Rattle.layouts.specs.Subjects.{Tells};
 
 mod scan;
@@ -99,11 +100,13 @@ fn facts(image: &[u8], t: Typed) -> Facts
     let by = t.by;
     let on = t.on;
     let to = t.to;
+    let set = t.set;
     let edit = Right::edit();
     Facts {
         by: live::is_live(image, by),
         on: live::is_live(image, on),
         to: live::is_live(image, to),
+        members: live::are_live(image, set),
         edits: holds(image, by, on, edit),
         back: false,
         past: false,
@@ -118,6 +121,15 @@ fn put_grant(image: &mut [u8], to: Item, on: Item, right: Right)
 {
     let at = place(to, on);
     image[at] = byte::with(image[at], right.number());
+}
+
+// The right into the row of every member of the set: one byte in each row.
+fn put_grants(image: &mut [u8], set: ItemSet, on: Item, right: Right)
+    requires { ⌜ (length (now image) ≡ rowBytes) × (on .0 < 64) × (right .0 < 8) ⌝ }
+    ensures { λ _. ⌜ now (image .exit) ≡ allowedSet rows (now (image .entry)) (set .0) (on .0) (right .0) 0 ⌝ }
+{
+    let k = on.number() as usize;
+    bytes::set_each(image, 8 + k, 64, set.number(), right.number());
 }
 
 // The right out of the person's row.
@@ -160,11 +172,12 @@ fn apply(image: &mut [u8], t: Typed)
         Edit::Delete => drop_item(image, t.on),
         Edit::Allow => put_grant(image, t.to, t.on, t.right),
         Edit::Withdraw => drop_grant(image, t.to, t.on, t.right),
+        Edit::AllowSet => put_grants(image, t.set, t.on, t.right),
         Edit::Nothing => {}
     }
 }
 
-// Numbers 4 to 10, and what follows.
+// Numbers 4 to 10 and 14, and what follows.
 fn settle(image: &mut [u8], t: Typed) -> Answer
     requires { ⌜ (length (now image) ≡ rowBytes) × Ranged (rawOf t) ⌝ }
     ensures { λ r. ⌜ Judged (flatUnit rows) (now (image .entry)) (rawOf t) (numberOf r) (now (image .exit)) ⌝ }
@@ -209,6 +222,22 @@ pub fn allow(image: &mut [u8], by: u32, to: u32, on: u32, right: u32, depth: u32
         Command::Allow {
             by,
             to,
+            on,
+            right,
+            depth,
+        },
+    )
+}
+
+// What an allow for each member of the set does, in any order, or nothing.
+pub fn allow_set(image: &mut [u8], by: u32, set: u64, on: u32, right: u32, depth: u32) -> Answer
+    ensures { λ r. ⌜ Ran (flatUnit rows) (now (image .entry)) (AllowSet by set on right depth) r (now (image .exit)) ⌝ }
+{
+    run(
+        image,
+        Command::AllowSet {
+            by,
+            set,
             on,
             right,
             depth,

@@ -1,13 +1,14 @@
--- Document 01's listing, with document 02's `last`: what its lines ask for; and lines that are malformed. By computation.
+-- Document 01's listing, with document 02's `last`: what its lines ask for; lines with a set; and lines that are malformed. By computation.
 use mathlib.Core.Path.{_≡_, refl}
 use Prim.Native.Nat.{ℕ}
 use mathlib.Core.List.{List, [], _∷_, _++_}
-use Rattle.model.specs.declared.Command.the-variants.{Create, Allow, Withdraw, Lend, Shift}
+use Rattle.bits.specs.Sets.{all}
+use Rattle.model.specs.declared.Command.the-variants.{Create, Allow, Withdraw, Lend, Shift, AllowSet}
 use Rattle.lines.specs.declared.Parsed.the-variants.{Run, Ask, Malformed}
 use Rattle.lines.specs.Bytes.{bytes}
 use Rattle.lines.specs.Show.{shown}
 use Rattle.lines.specs.Grammar.{meaning}
-use Rattle.lines.specs.Line.{parseLine, orElse, readBy, andThen, numberAt, decimal}
+use Rattle.lines.specs.Line.{parseLine, orElse, readBy, andThen, numberAt, decimal, setOf}
 use Rattle.lines.specs.Collect.{linesFrom}
 use Rattle.output.specs.Output.{newline, lastOutput}
 use Rattle.transcript.specs.Program.{asksOf, outputFrom, outputOf}
@@ -41,6 +42,22 @@ pub largest-value :
     ≡ Run (Lend 3 4 9 1 4294967295 4294967295) ∷ Run (Shift 0 4294967295) ∷ []
 unfolding linesFrom parseLine orElse meaning readBy andThen numberAt decimal
 largest-value = refl
+
+-- sets of items 0 to 3, and of all 64; and malformed ones: upper case, 15 digits, 17, 0x, a sign
+pub set-lines :
+    asksOf (bytes "do=allowset by=0 set=000000000000000f on=9 right=1 depth=2\n"
+    ++ bytes "do=allowset by=0 set=ffffffffffffffff on=9 right=1 depth=2\n")
+    ≡ Run (AllowSet 0 15 9 1 2) ∷ Run (AllowSet 0 18446744073709551615 9 1 2) ∷ []
+unfolding linesFrom parseLine orElse meaning readBy andThen numberAt decimal setOf all
+set-lines = refl
+
+pub malformed-sets :
+    asksOf (bytes "do=allowset by=0 set=000000000000000F on=9 right=1 depth=2\ndo=allowset by=0 set=00000000000000f on=9 right=1 depth=2\n"
+    ++ bytes "do=allowset by=0 set=0000000000000000f on=9 right=1 depth=2\ndo=allowset by=0 set=0x0000000000000f on=9 right=1 depth=2\n"
+    ++ bytes "do=allowset by=0 set=+00000000000000f on=9 right=1 depth=2\n")
+    ≡ Malformed ∷ Malformed ∷ Malformed ∷ Malformed ∷ Malformed ∷ []
+unfolding linesFrom parseLine orElse meaning readBy andThen numberAt decimal setOf all
+malformed-sets = refl
 
 -- 'Empty input gives `lines=0`'
 pub empty-output : outputOf [] ≡ bytes "lines=0\n"

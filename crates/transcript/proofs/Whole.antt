@@ -10,7 +10,8 @@ use lib.ListN.{length}
 use lib.Dec.{eqb}
 use Rattle.model.specs.declared.Command.{Command}
 use Rattle.model.specs.declared.Command.the-variants.{Create, Allow, Withdraw, Lend}
-use Rattle.bits.specs.Sets.{any, all, keep, add}
+use Rattle.bits.specs.Sets.{any, all, keep, add, tabulate}
+use Rattle.bits.specs.Bits.{bit, members}
 use Rattle.model.specs.Journal.{Loan, Journal, grant, loan, sameGrant, sameLoan, carries, standing, LoanCarries, fresh, step, run}
 use Rattle.model.specs.Chain.{granted, lent, JournalChain}
 use Rattle.bits.proofs.Sets.{fst, snd, find}
@@ -26,16 +27,34 @@ use Rattle.transcript.specs.Text.{commandLine, CheckLine, refused, none,
 use Rattle.transcript.proofs.Text.{text-agreement}
 use Rattle.transcript.proofs.Listing.{listing-input, listing-asks}
 
--- ---- the journal before each of the two checks
+-- ---- the journal before each of the two checks, and that the listing's commands lead there
 lent-journal : Journal
-lent-journal = run fresh (Create 0 3 ∷ Create 0 4 ∷ Create 0 9 ∷ Allow 0 3 9 1 1 ∷ Lend 3 4 9 1 0 0 ∷ [])
+lent-journal = record {
+  live = 9 ∷ 4 ∷ 3 ∷ 0 ∷ [];
+  grants = grant 3 9 1 1 ∷ grant 0 9 0 0 ∷ grant 0 4 0 0 ∷ grant 0 3 0 0 ∷ grant 0 0 0 0 ∷ [];
+  loans = loan 3 9 1 4 0 0 ∷ [];
+  shift = 0;
+}
 
 withdrawn-journal : Journal
-withdrawn-journal = step lent-journal (Withdraw 0 3 9 1)
+withdrawn-journal = record {
+  live = 9 ∷ 4 ∷ 3 ∷ 0 ∷ [];
+  grants = grant 0 9 0 0 ∷ grant 0 4 0 0 ∷ grant 0 3 0 0 ∷ grant 0 0 0 0 ∷ [];
+  loans = loan 3 9 1 4 0 0 ∷ [];
+  shift = 0;
+}
+
+lent-there : run fresh (Create 0 3 ∷ Create 0 4 ∷ Create 0 9 ∷ Allow 0 3 9 1 1 ∷ Lend 3 4 9 1 0 0 ∷ []) ≡ lent-journal
+unfolding lent-journal fresh carries any all keep add tabulate members bit
+lent-there = refl
+
+withdrawn-there : step lent-journal (Withdraw 0 3 9 1) ≡ withdrawn-journal
+unfolding withdrawn-journal lent-journal carries any all keep add tabulate members bit
+withdrawn-there = refl
 
 -- the one grant of right 1, and the one loan
 one-grant : (p e : ℕ) → standing lent-journal (grant p 9 1 e) ≡ true → (p ≡ 3) × (e ≡ 1)
-unfolding lent-journal fresh carries any all keep add
+unfolding lent-journal any all
 one-grant p e h =
     let f = find (sameGrant (grant p 9 1 e)) (λ g. cond (eqb 1 (g .right)) (eqb (g .person) 3 && eqb (g .depth) 1) true)
     (lent-journal .grants) refl h in
@@ -48,7 +67,7 @@ one-grant p e h =
     (a ∙ c, b ∙ d)
 
 one-loan : (l : Loan) → LoanCarries lent-journal 9 1 l → (l .lender ≡ 3) × (l .borrower ≡ 4) × (l .depth ≡ 0)
-unfolding lent-journal fresh carries any all keep add
+unfolding lent-journal any all
 one-loan l s =
     let f = find (sameLoan l) (λ m. eqb (m .lender) 3 && eqb (m .borrower) 4 && eqb (m .depth) 0) (lent-journal .loans) refl (s .0) in
     let a : l .lender ≡ f .0 .lender = search (fst, snd, eqb-true) in
@@ -74,7 +93,7 @@ only (lent {ps} {a} l s c) =
 
 -- and after the withdrawal it has none
 no-chain : {ps : List ℕ} {p a : ℕ} → JournalChain withdrawn-journal 9 1 ps p a → ⊥
-unfolding withdrawn-journal lent-journal fresh carries any all keep add
+unfolding withdrawn-journal any all
 no-chain (granted {p} {e} h) =
     let f = find (sameGrant (grant p 9 1 e)) (λ g. not (eqb 1 (g .right))) (withdrawn-journal .grants) refl h in
     let r : eqb 1 (f .0 .right) ≡ true = search (fst, snd) in
@@ -91,13 +110,17 @@ next-command : {j k : Journal} {n : ℕ} {c : Command} {xs : List Parsed} {t : L
     → Next (commandLine j k (n + 1) c) (step j c) (step k c) (n + 1) xs t
 next-command (next {rest = rest} t e r) = record { rest = rest; is = ap (λ (l : List ℕ). l ++ rest) e; then = r }
 
+-- the same journal, named otherwise
+at-journal : {i j : Journal} {n : ℕ} {xs : List Parsed} {t : List ℕ} → i ≡ j → Allowed step i i n xs t → Allowed step j j n xs t
+at-journal {n = n} {xs} {t} e a = subst (λ (k : Journal). Allowed step k k n xs t) e a
+
 last-line : {j k : Journal} {n : ℕ} {t : List ℕ} → Allowed step j k n [] t → t ≡ lastOutput n
 last-line last = refl
 
 -- the first check finds the one chain, the second none
 first-check : (n : ℕ) (t : List ℕ) → CheckLine lent-journal lent-journal n 4 9 1 t
     → t ≡ outputLine n (reply No No Yes (Chain 0 2)) (3 ∷ 4 ∷ [])
-unfolding lent-journal fresh carries any keep add
+unfolding lent-journal carries any
 first-check n t (refused h) = absurd (h refl)
 first-check n t (none e h) = absurd (h (3 ∷ 4 ∷ []) 0 (lent (loan 3 9 1 4 0 0) (refl, refl, refl, refl) (granted {p = 3} {e = 1} refl)))
 first-check n t (found e g) =
@@ -105,7 +128,7 @@ first-check n t (found e g) =
     (λ w. ap₂ (λ (d : ℕ) (ps : List ℕ). outputLine n (reply No No Yes (Chain d (length ps))) ps) (w .2) (w .1)) (only (g .chain))
 
 second-check : (n : ℕ) (t : List ℕ) → CheckLine withdrawn-journal withdrawn-journal n 4 9 1 t → t ≡ outputLine n (reply No No No Dashes) []
-unfolding withdrawn-journal lent-journal fresh carries any keep add
+unfolding withdrawn-journal any
 second-check n t (refused h) = absurd (h refl)
 second-check n t (none e h) = refl
 second-check n t (found e g) = absurd (no-chain (g .chain))
@@ -124,7 +147,8 @@ pub listing-output :
     ≡ bytes "line=1 list=0 row=0 chain=0\nline=2 list=0 row=0 chain=0\nline=3 list=0 row=0 chain=0\nline=4 list=0 row=0 chain=0\n"
     ++ bytes "line=5 list=- row=- chain=0\nline=6 list=no row=no chain=yes depth=0 via=3,4\nline=7 list=0 row=0 chain=0\n"
     ++ bytes "line=8 list=no row=no chain=no depth=- via=-\nlines=8\n"
-unfolding lent-journal withdrawn-journal fresh carries any keep add outputLine saidText tailText persons morePersons newline lastOutput shown
+unfolding lent-journal fresh carries any all keep add tabulate members bit
+    outputLine saidText tailText persons morePersons newline lastOutput shown
 listing-output =
     let h = subst (λ xs. Allowed step fresh fresh 0 xs (outputOf listing-input)) listing-asks (text-agreement listing-input) in
     let n1 = next-command h in
@@ -132,9 +156,9 @@ listing-output =
     let n3 = next-command (n2 .then) in
     let n4 = next-command (n3 .then) in
     let n5 = next-command (n4 .then) in
-    let n6 = next-check (outputLine 6 (reply No No Yes (Chain 0 2)) (3 ∷ 4 ∷ [])) (first-check 6) (n5 .then) in
+    let n6 = next-check (outputLine 6 (reply No No Yes (Chain 0 2)) (3 ∷ 4 ∷ [])) (first-check 6) (at-journal lent-there (n5 .then)) in
     let n7 = next-command (n6 .then) in
-    let n8 = next-check (outputLine 8 (reply No No No Dashes) []) (second-check 8) (n7 .then) in
+    let n8 = next-check (outputLine 8 (reply No No No Dashes) []) (second-check 8) (at-journal withdrawn-there (n7 .then)) in
     n1 .is ∙ after (bytes "line=1 list=0 row=0 chain=0\n") (
     n2 .is ∙ after (bytes "line=2 list=0 row=0 chain=0\n") (
     n3 .is ∙ after (bytes "line=3 list=0 row=0 chain=0\n") (

@@ -62,6 +62,12 @@ enum-told-7 c = search needs
 set-shift-requires : tie.Need-set-shift-requires
 set-shift-requires c κs = search needs
 
+enum-told-8 : tie.Need-enum-told-8
+enum-told-8 c = search needs
+
+put-grants-requires : tie.Need-put-grants-requires
+put-grants-requires c κs = search needs
+
 same-length : tie.Need-same-length
 same-length c = search needs
 
@@ -138,6 +144,16 @@ returns-7 c =
     (c .before .before .before .before .enum-told7 .given .1)
     (ap (images (start .args .grants .now)) (c .before .before .set-shift .ensures))
 
+same-length-9 : tie.Need-same-length-9
+same-length-9 c = search needs
+
+returns-8 : tie.Need-returns-8
+returns-8 c =
+    let start = c .before .before .before .before .before .before .before .before in
+    arm (images (start .args .grants .now) (start .args .loans .now)) _ (rawOf (start .args .t)) _
+    (c .before .before .before .before .enum-told8 .given .1)
+    (ap (λ g. images g (start .args .loans .now)) (c .before .before .put-grants .ensures))
+
 pub apply-spec : {M : Type 1} → statement M
 apply-spec =
     tie.close
@@ -158,6 +174,8 @@ apply-spec =
     drop-loan-requires
     enum-told-7
     set-shift-requires
+    enum-told-8
+    put-grants-requires
     same-length
     returns
     same-length-2
@@ -172,4 +190,6 @@ apply-spec =
     same-length-7
     returns-6
     same-length-8
-    returns-7)
+    returns-7
+    same-length-9
+    returns-8)

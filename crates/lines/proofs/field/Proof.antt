@@ -3,6 +3,7 @@
 use borrow.Author.Needs.{needs}
 use native.Mathlib.Omega.{arith}
 use mathlib.Core.Path.{sym, _∙_}
+use Rattle.lines.specs.Grammar.{number}
 use Rattle.lines.proofs.Line.{field-none, field-some, key-fits}
 use Rattle.lines.proofs.field.Statement.{statement}
 use Rattle.lines.proofs.field.Tie as tie
@@ -23,13 +24,13 @@ read-number-requires c κs = search needs
 
 returns : tie.Need-returns
 returns c =
-    c .read-number .ensures ∙ field-some (c .before .before .before .before .before .args .key .now)
+    c .read-number .ensures ∙ field-some number (c .before .before .before .before .before .args .key .now)
     (c .before .before .before .before .before .args .s .now) (c .before .before .before .before .before .args .at)
     (sym (c .before .before .starts .ensures) ∙ c .before .if1 .taken)
 
 returns-2 : tie.Need-returns-2
 returns-2 c =
-    field-none (c .before .before .before .before .args .key .now) (c .before .before .before .before .args .s .now)
+    field-none number (c .before .before .before .before .args .key .now) (c .before .before .before .before .args .s .now)
     (c .before .before .before .before .args .at) (sym (c .before .starts .ensures) ∙ c .if1 .left)
 
 pub field-spec : {M : Type 1} → statement M

@@ -1,7 +1,7 @@
 -- The tests of a decimal number, one at a time: no digit (`num-none`), too many (`num-long`), a leading zero (`num-padded`), else good
 -- (`num-good`). That the value is within 32 bits is required.
 use borrow.Author.Needs.{needs}
-use mathlib.Core.Logic.{inl, inr, ⊎-elim}
+use mathlib.Core.Logic.{inl, inr}
 use Rattle.lines.proofs.Line.{num-none, num-long, num-padded, num-good}
 use Rattle.lines.proofs.finish.Statement.{statement}
 use Rattle.lines.proofs.finish.Tie as tie
@@ -28,15 +28,18 @@ returns-3 c =
     (c .before .before .before .before .before .pre) (c .before .before .before .before .if1 .left) (c .before .before .if3 .taken)
     (c .if4 .taken)
 
-cast-t10 : tie.Need-cast-t10
-cast-t10 c = search needs
-
 returns-4 : tie.Need-returns-4
 returns-4 c =
-    num-good (c .before .before .before .args .s .now) (c .before .before .before .args .at) (c .before .before .before .args .i)
-    (c .before .before .before .args .v) (c .before .before .before .pre) (c .before .before .if1 .left) (c .before .if2 .left)
-    (⊎-elim (λ w. inl (w .0 .taken, w .2 .left)) (λ w. inr (w .left)) (c .if3 .came))
+    let e = c .before .before .before .before .before in
+    num-good (e .args .s .now) (e .args .at) (e .args .i) (e .args .v) (e .pre) (c .before .before .before .before .if1 .left)
+    (c .before .before .before .if2 .left) (inl (c .before .before .if3 .taken, c .if4 .left))
+
+returns-5 : tie.Need-returns-5
+returns-5 c =
+    let e = c .before .before .before in
+    num-good (e .args .s .now) (e .args .at) (e .args .i) (e .args .v) (e .pre) (c .before .before .if1 .left) (c .before .if2 .left)
+    (inr (c .if3 .left))
 
 pub finish-spec : {M : Type 1} → statement M
 finish-spec =
-    tie.close (tie.spec sub-k returns returns-2 shared-slice-read-if4 returns-3 cast-t10 returns-4)
+    tie.close (tie.spec sub-k returns returns-2 shared-slice-read-if4 returns-3 returns-4 returns-5)

@@ -1,4 +1,4 @@
--- In each arm the key's bytes are those of its letter, by computation.
+-- In each arm the key's bytes and the kind of its value are those of its letter, by computation.
 use borrow.Author.Tests.{ne-eqb}
 use Rattle.lines.specs.Reader.{keyAt}
 use borrow.Author.Needs.{needs}
@@ -23,6 +23,12 @@ slice-aggregate-field-3 c = search needs
 
 field-requires-3 : tie.Need-field-requires-3
 field-requires-3 c κs = search needs
+
+slice-aggregate-set-field : tie.Need-slice-aggregate-set-field
+slice-aggregate-set-field c = search needs
+
+set-field-requires : tie.Need-set-field-requires
+set-field-requires c κs = search needs
 
 slice-aggregate-field-4 : tie.Need-slice-aggregate-field-4
 slice-aggregate-field-4 c = search needs
@@ -68,29 +74,34 @@ returns-3 c = c .field3 .ensures ∙ rw (c .before .before .match .keys3) refl
 
 returns-4 : tie.Need-returns-4
 unfolding keyAt
-returns-4 c = c .field4 .ensures ∙ rw (c .before .before .match .keys4) refl
+returns-4 c = c .set-field .ensures ∙ rw (c .before .before .match .keys4) refl
 
 returns-5 : tie.Need-returns-5
 unfolding keyAt
-returns-5 c = c .field5 .ensures ∙ rw (c .before .before .match .keys5) refl
+returns-5 c = c .field4 .ensures ∙ rw (c .before .before .match .keys5) refl
 
 returns-6 : tie.Need-returns-6
 unfolding keyAt
-returns-6 c = c .field6 .ensures ∙ rw (c .before .before .match .keys6) refl
+returns-6 c = c .field5 .ensures ∙ rw (c .before .before .match .keys6) refl
 
 returns-7 : tie.Need-returns-7
 unfolding keyAt
-returns-7 c = c .field7 .ensures ∙ rw (c .before .before .match .keys7) refl
+returns-7 c = c .field6 .ensures ∙ rw (c .before .before .match .keys7) refl
 
 returns-8 : tie.Need-returns-8
 unfolding keyAt
-returns-8 c =
+returns-8 c = c .field7 .ensures ∙ rw (c .before .before .match .keys8) refl
+
+returns-9 : tie.Need-returns-9
+unfolding keyAt
+returns-9 c =
     let m = c .before .before .match .rest in
     c .field8 .ensures
     ∙ rw (
-      ne-eqb _ 98 (m .0 .0 .0 .0 .0 .0 .1),
-      ne-eqb _ 119 (m .0 .0 .0 .0 .0 .1),
-      ne-eqb _ 116 (m .0 .0 .0 .0 .1),
+      ne-eqb _ 98 (m .0 .0 .0 .0 .0 .0 .0 .1),
+      ne-eqb _ 119 (m .0 .0 .0 .0 .0 .0 .1),
+      ne-eqb _ 116 (m .0 .0 .0 .0 .0 .1),
+      ne-eqb _ 115 (m .0 .0 .0 .0 .1),
       ne-eqb _ 111 (m .0 .0 .0 .1),
       ne-eqb _ 114 (m .0 .0 .1),
       ne-eqb _ 108 (m .0 .1),
@@ -107,6 +118,8 @@ key-value-spec =
     field-requires-2
     slice-aggregate-field-3
     field-requires-3
+    slice-aggregate-set-field
+    set-field-requires
     slice-aggregate-field-4
     field-requires-4
     slice-aggregate-field-5
@@ -124,4 +137,5 @@ key-value-spec =
     returns-5
     returns-6
     returns-7
-    returns-8)
+    returns-8
+    returns-9)

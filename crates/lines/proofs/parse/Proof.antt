@@ -3,7 +3,7 @@ use borrow.Author.Needs.{needs}
 use borrow.Author.Tests.{not-true, not-false}
 use mathlib.Core.Path.{sym, _∙_}
 use Rattle.lines.proofs.Grammar.{other-malformed}
-use Rattle.lines.proofs.Turns.{blank, parse-got, parse-not}
+use Rattle.lines.proofs.Turns.{blank, parse-within, parse-got, parse-not}
 use Rattle.lines.proofs.parse.Statement.{statement}
 use Rattle.lines.proofs.parse.Tie as tie
 
@@ -25,7 +25,7 @@ read-by-requires : tie.Need-read-by-requires
 read-by-requires c κs = (blank, sym (c .before .before .before .starts .ensures) ∙ not-false _ (c .before .before .if1 .left))
 
 meaning-of-requires : tie.Need-meaning-of-requires
-meaning-of-requires c κs = search needs
+meaning-of-requires c κs = parse-within _ _ _ _ (c .before .before .read-by .ensures) (c .before .if2 .taken)
 
 returns-2 : tie.Need-returns-2
 returns-2 c =

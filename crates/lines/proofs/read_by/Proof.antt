@@ -76,6 +76,15 @@ slice-aggregate-fill-16 c = search needs
 fill-requires-8 : tie.Need-fill-requires-8
 fill-requires-8 c κs = search needs
 
+slice-aggregate-fill-17 : tie.Need-slice-aggregate-fill-17
+slice-aggregate-fill-17 c = search needs
+
+slice-aggregate-fill-18 : tie.Need-slice-aggregate-fill-18
+slice-aggregate-fill-18 c = search needs
+
+fill-requires-9 : tie.Need-fill-requires-9
+fill-requires-9 c κs = search needs
+
 returns : tie.Need-returns
 returns c = rw (c .before .before .before .before .match .keys1) (c .fill .ensures)
 
@@ -101,7 +110,10 @@ returns-8 : tie.Need-returns-8
 returns-8 c = rw (c .before .before .before .before .match .keys8) (c .fill8 .ensures)
 
 returns-9 : tie.Need-returns-9
-returns-9 c = past-not _ _ _ (c .match .rest) (c .before .before .pre .1)
+returns-9 c = rw (c .before .before .before .before .match .keys9) (c .fill9 .ensures)
+
+returns-10 : tie.Need-returns-10
+returns-10 c = past-not _ _ _ (c .match .rest) (c .before .before .pre .1)
 
 pub read-by-spec : {M : Type 1} → statement M
 read-by-spec =
@@ -131,6 +143,9 @@ read-by-spec =
     slice-aggregate-fill-15
     slice-aggregate-fill-16
     fill-requires-8
+    slice-aggregate-fill-17
+    slice-aggregate-fill-18
+    fill-requires-9
     returns
     returns-2
     returns-3
@@ -139,4 +154,5 @@ read-by-spec =
     returns-6
     returns-7
     returns-8
-    returns-9)
+    returns-9
+    returns-10)

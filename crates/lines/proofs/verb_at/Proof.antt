@@ -16,9 +16,6 @@ byte-requires-2 c κs = search needs
 cast-b : tie.Need-cast-b
 cast-b c = search needs
 
-mul-h : tie.Need-mul-h
-mul-h c = search needs
-
 add-h : tie.Need-add-h
 add-h c = search needs
 
@@ -39,7 +36,6 @@ verb-at-spec =
     cast-a
     byte-requires-2
     cast-b
-    mul-h
     add-h
     array-read-result
     cast-result
