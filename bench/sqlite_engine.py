@@ -1,8 +1,8 @@
 #!/usr/bin/env python3
 """The program as an SQLite engine: the state in tables, the chain check as a recursive query.
 
-Reads document 01's command lines from standard input, with last=0 for loans, and writes the program's output. Lists and
-rows are answered from the same table of grants. Every loan is taken as open-ended.
+Reads document 01's command lines and allowset from standard input, with last=0 for loans, and writes the program's
+output. Lists and rows are answered from the same table of grants. Every loan is taken as open-ended.
 """
 
 import re
@@ -41,12 +41,15 @@ FIELDS = {
     "create": ("by", "on"),
     "delete": ("by", "on"),
     "allow": ("by", "to", "on", "right", "depth"),
+    "allowset": ("by", "set", "on", "right", "depth"),
     "withdraw": ("by", "to", "on", "right"),
     "lend": ("by", "to", "on", "right", "depth", "last"),
     "recall": ("by", "to", "on", "right", "depth", "last"),
     "check": ("who", "on", "right"),
 }
 LIMITS = {"by": 63, "to": 63, "on": 63, "who": 63, "right": 7, "depth": 7, "last": 255}
+NUMBER = "0|[1-9][0-9]{0,9}"
+SET = "[0-9a-f]{16}"
 LOANS_MAX = 1024
 THIS_LOAN = "item = :on AND right = :right AND lender = :by AND borrower = :to AND depth = :depth"
 
@@ -62,6 +65,7 @@ CHANGES = {
         "DELETE FROM loans WHERE item = :on OR lender = :on OR borrower = :on",
     ),
     "allow": ("INSERT OR IGNORE INTO grants VALUES (:on, :right, :to, :depth)",),
+    "allowset": ("INSERT OR IGNORE INTO grants SELECT :on, :right, item, :depth FROM live WHERE :set >> item & 1",),
     "withdraw": ("DELETE FROM grants WHERE item = :on AND right = :right AND person = :to",),
     "lend": ("INSERT OR IGNORE INTO loans VALUES (:on, :right, :by, :to, :depth)",),
     "recall": (f"DELETE FROM loans WHERE {THIS_LOAN}",),
@@ -69,7 +73,7 @@ CHANGES = {
 
 
 def pattern(word, fields):
-    values = "".join(f" {field}=(?P<{field}>0|[1-9][0-9]{{0,9}})" for field in fields)
+    values = "".join(f" {field}=(?P<{field}>{SET if field == 'set' else NUMBER})" for field in fields)
     return re.compile(f"do={word}{values}\n")
 
 
@@ -82,8 +86,18 @@ def parse(line):
     match = PATTERNS[word].fullmatch(line) if word in PATTERNS else None
     if match is None:
         return None
-    numbers = {field: int(value) for field, value in match.groupdict().items()}
-    return (word, numbers) if max(numbers.values()) <= 4294967295 else None
+    numbers = {field: value_of(field, text) for field, text in match.groupdict().items()}
+    fits = all(value <= 4294967295 for field, value in numbers.items() if field != "set")
+    return (word, numbers) if fits else None
+
+
+def value_of(field, text):
+    # A set is signed, as SQLite takes numbers of 64 bits; bit i is for item i all the same.
+    return int.from_bytes(bytes.fromhex(text), "big", signed=True) if field == "set" else int(text)
+
+
+def beyond(n):
+    return any(value > LIMITS[field] for field, value in n.items() if field in LIMITS)
 
 
 class Engine:
@@ -97,6 +111,15 @@ class Engine:
     def lives(self, item):
         return self.any("SELECT 1 FROM live WHERE item = ?", (item,))
 
+    def named_live(self, n):
+        """Whether on, to and every member of the set live."""
+        if not self.lives(n["on"]) or not self.lives(n.get("to", n["on"])):
+            return False
+        if "set" not in n:
+            return True
+        members = bin(n["set"] & 2**64 - 1).count("1")
+        return members == self.db.execute("SELECT count(*) FROM live WHERE :set >> item & 1", n).fetchone()[0]
+
     def edits(self, n):
         return self.any("SELECT 1 FROM grants WHERE item = :on AND right = 0 AND person = :by LIMIT 1", n)
 
@@ -106,18 +129,20 @@ class Engine:
         return not self.any(f"SELECT 1 FROM loans WHERE {THIS_LOAN}", n)
 
     def refusal(self, word, n):
-        """The lowest number of the table that applies, 0 where none does."""
-        if any(value > LIMITS[field] for field, value in n.items()):
+        """The first number of the table that applies, 0 where none does."""
+        if beyond(n):
             return 3
+        if n.get("set") == 0:
+            return 14
         if not self.lives(n["by"]):
             return 4
         if word == "create":
             return 6 if self.lives(n["on"]) else 0
-        if not self.lives(n["on"]) or not self.lives(n.get("to", n["on"])):
+        if not self.named_live(n):
             return 5
         if word == "delete" and n["on"] == 0:
             return 7
-        if word in ("delete", "allow", "withdraw"):
+        if word in ("delete", "allow", "allowset", "withdraw"):
             return 0 if self.edits(n) else 8
         if word == "lend":
             return 9 if n["right"] == 0 else 10 if self.full(n) else 0
@@ -149,7 +174,7 @@ class Engine:
         return best[n["who"]], reversed(persons)
 
     def check(self, n):
-        if any(value > LIMITS[field] for field, value in n.items()):
+        if beyond(n):
             return "list=3 row=3 chain=3 depth=- via=-"
         granted = self.any("SELECT 1 FROM grants WHERE item = :on AND right = :right AND person = :who LIMIT 1", n)
         flat = "yes" if granted else "no"

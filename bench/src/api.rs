@@ -1,14 +1,15 @@
 //! What is measured: the public functions of the engine, as a table of functions that two implementations fill.
 
 pub use rights::{
-    ALREADY_LIVE, BY_DEAD, CHAIN_PERSONS, DEPTH_MAX, DONE, EDIT_RIGHT, FULL, GRANTS_BYTES, ITEM_MAX, LISTS_WORDS,
-    LOANS_MAX, LOANS_WORDS, NAMED_DEAD, NOT_IN_ORDER, NO_EDIT, OUT_OF_RANGE, RIGHT_MAX, ROOT_ITEM, ROWS_BYTES,
-    SHIFT_MAX, WRONG_LENGTH,
+    ALREADY_LIVE, BY_DEAD, CHAIN_PERSONS, DEPTH_MAX, DONE, EDIT_RIGHT, EMPTY_SET, FULL, GRANTS_BYTES, ITEM_MAX,
+    LISTS_WORDS, LOANS_MAX, LOANS_WORDS, NAMED_DEAD, NOT_IN_ORDER, NO_EDIT, OUT_OF_RANGE, RIGHT_MAX, ROOT_ITEM,
+    ROWS_BYTES, SHIFT_MAX, WRONG_LENGTH,
 };
 
 pub const NO_PERSON: u8 = rights::NO_PERSON as u8;
 
-/// The arguments of allow, lend and recall; withdraw leaves the depth aside. Every loan is open-ended.
+/// The arguments of allow, lend and recall; withdraw leaves the depth aside, and allow_set, which has a set of persons,
+/// leaves `to` aside. Every loan is open-ended.
 #[derive(Clone, Copy, Debug)]
 pub struct Grant {
     pub by: u32,
@@ -47,6 +48,7 @@ pub struct Flat<C: 'static> {
     pub create: fn(&mut [C], u32, u32) -> u32,
     pub delete: fn(&mut [C], u32, u32) -> u32,
     pub allow: fn(&mut [C], Grant) -> u32,
+    pub allow_set: fn(&mut [C], u64, Grant) -> u32,
     pub withdraw: fn(&mut [C], Grant) -> u32,
     pub check: fn(&[C], Question) -> Said,
     pub subjects: fn(&[C]) -> Said,
@@ -58,6 +60,7 @@ pub struct Chains {
     pub create: fn(&mut [u8], &mut [u32], u32, u32) -> u32,
     pub delete: fn(&mut [u8], &mut [u32], u32, u32) -> u32,
     pub allow: fn(&mut [u8], &mut [u32], Grant) -> u32,
+    pub allow_set: fn(&mut [u8], &mut [u32], u64, Grant) -> u32,
     pub withdraw: fn(&mut [u8], &mut [u32], Grant) -> u32,
     pub lend: fn(&mut [u8], &mut [u32], Grant) -> u32,
     pub recall: fn(&mut [u8], &mut [u32], Grant) -> u32,

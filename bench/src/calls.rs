@@ -3,7 +3,7 @@
 use crate::api::*;
 use crate::engine::ENGINE;
 use crate::measure::{compare, Times};
-use crate::plain::PLAIN;
+use crate::plain::{bits, PLAIN};
 use crate::state::{home, is_chain, written, ChainState, Pair, KEY};
 use std::hint::black_box;
 
@@ -50,6 +50,10 @@ fn digest(said: Said) -> u64 {
 /// A grant that stands nowhere in the states: the root's, to item 6 on item 8.
 const GRANT: Grant = Grant { by: 0, to: 6, on: 8, right: 3, depth: 2 };
 
+/// Forty persons, items 1 to 40, all alive; and forty of which one is dead in lists and rows, item 50.
+const FORTY: u64 = ((1 << 40) - 1) << 1;
+const ONE_DEAD: u64 = FORTY ^ 1 << 40 ^ 1 << 50;
+
 fn flat_cases<C: Clone + From<u8>>(unit: &Flat<C>, cells: usize) -> Vec<Case<Flat<C>, Vec<C>>> {
     let case = |name: &str, calls, step: Step<Flat<C>, Vec<C>>| Case {
         name: name.to_string(),
@@ -64,6 +68,8 @@ fn flat_cases<C: Clone + From<u8>>(unit: &Flat<C>, cells: usize) -> Vec<Case<Fla
         case("delete, refused with 8", 1, |u, s| u64::from((u.delete)(s, 6, 7))),
         case("allow + withdraw", 2, |u, s| u64::from((u.allow)(s, GRANT) + 16 * (u.withdraw)(s, GRANT))),
         case("allow, refused with 8", 1, |u, s| u64::from((u.allow)(s, Grant { by: 6, ..GRANT }))),
+        case("allow_set of 40 members", 1, |u, s| u64::from((u.allow_set)(s, FORTY, GRANT))),
+        case("allow_set of 40 members, refused with 5", 1, |u, s| u64::from((u.allow_set)(s, ONE_DEAD, GRANT))),
         case("check", 1, |u, s| digest((u.check)(s, Question { who: 0, on: 7, right: 0 }))),
         case("check, refused with 3", 1, |u, s| digest((u.check)(s, Question { who: 64, on: 7, right: 0 }))),
         case("subjects", 1, |u, s| digest((u.subjects)(s))),
@@ -118,6 +124,7 @@ fn grant_cases(loans: u32) -> Vec<ChainCase> {
         case("allow, refused with 8", 1, |u, s| {
             u64::from((u.allow)(&mut s.grants, &mut s.loans, Grant { by: 6, ..GRANT }))
         }),
+        case("allow_set of 40 members", 1, |u, s| u64::from((u.allow_set)(&mut s.grants, &mut s.loans, FORTY, GRANT))),
         case("inspect", 1, |u, s| u64::from((u.inspect)(&s.grants, &s.loans))),
     ]
 }
@@ -188,4 +195,49 @@ pub fn checks() -> Vec<Line> {
     let cases = check_cases();
     cases.iter().for_each(|case| chains_hold(&case.state));
     cases.into_iter().map(|case| run(case, &ENGINE.chains, &PLAIN.chains)).collect()
+}
+
+/// The single allows of the members against one allow_set, both by the engine. Before the timing: both leave the same.
+fn set_line<S: Clone + PartialEq>(
+    name: String,
+    mut state: S,
+    at_once: fn(&mut S) -> u32,
+    each: fn(&mut S) -> u32,
+) -> Line {
+    let (mut one, mut other) = (state.clone(), state.clone());
+    assert_eq!((at_once(&mut one), each(&mut other)), (DONE, DONE), "{name}: refused");
+    assert!(one == other && one != state, "{name}: the images differ");
+    let (at_once, each) = (black_box(at_once), black_box(each));
+    // The shorter step decides how many make a batch.
+    let times = compare(&mut state, 1, |s| u64::from(at_once(s)), |s| u64::from(each(s)));
+    Line { name, times: Times { first: times.second, second: times.first, ratio: times.ratio.recip() } }
+}
+
+/// The numbers of the single allows of the forty, added up.
+fn each_of_forty(mut allow: impl FnMut(Grant) -> u32) -> u32 {
+    bits(FORTY).map(|to| allow(Grant { to: to as u32, ..GRANT })).sum()
+}
+
+fn chain_set_line(loans: u32) -> Line {
+    let (name, state) = (format!("chain unit, {} loans", written(loans)), ChainState::without_63(loans));
+    let at_once = |s: &mut ChainState| (ENGINE.chains.allow_set)(&mut s.grants, &mut s.loans, FORTY, GRANT);
+    let each = |s: &mut ChainState| each_of_forty(|grant| (ENGINE.chains.allow)(&mut s.grants, &mut s.loans, grant));
+    set_line(name, state, at_once, each)
+}
+
+/// 40 allows against one allow_set of 40 members.
+pub fn sets() -> Vec<Line> {
+    let lists = set_line(
+        "lists".to_string(),
+        home(&PLAIN.lists, LISTS_WORDS),
+        |s| (ENGINE.lists.allow_set)(s, FORTY, GRANT),
+        |s| each_of_forty(|grant| (ENGINE.lists.allow)(s, grant)),
+    );
+    let rows = set_line(
+        "rows".to_string(),
+        home(&PLAIN.rows, ROWS_BYTES),
+        |s| (ENGINE.rows.allow_set)(s, FORTY, GRANT),
+        |s| each_of_forty(|grant| (ENGINE.rows.allow)(s, grant)),
+    );
+    vec![lists, rows, chain_set_line(0), chain_set_line(1024)]
 }

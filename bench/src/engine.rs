@@ -10,6 +10,7 @@ macro_rules! flat_unit {
             create: $unit::create,
             delete: $unit::delete,
             allow: |image, g| $unit::allow(image, g.by, g.to, g.on, g.right, g.depth),
+            allow_set: |image, set, g| $unit::allow_set(image, g.by, set, g.on, g.right, g.depth),
             withdraw: |image, g| $unit::withdraw(image, g.by, g.to, g.on, g.right),
             check: |image, q| {
                 let (number, yes) = $unit::check(image, q.who, q.on, q.right);
@@ -29,6 +30,7 @@ const CHAINS: Chains = Chains {
     create: chains::create,
     delete: chains::delete,
     allow: |grants, loans, g| chains::allow(grants, loans, g.by, g.to, g.on, g.right, g.depth),
+    allow_set: |grants, loans, set, g| chains::allow_set(grants, loans, g.by, set, g.on, g.right, g.depth),
     withdraw: |grants, loans, g| chains::withdraw(grants, loans, g.by, g.to, g.on, g.right),
     lend: |grants, loans, g| chains::lend(grants, loans, g.by, g.to, g.on, g.right, g.depth, 0),
     recall: |grants, loans, g| chains::recall(grants, loans, g.by, g.to, g.on, g.right, g.depth, 0),

@@ -7,8 +7,9 @@ use crate::state::{fresh_flat, is_chain, ChainState, Pair, Seeded};
 
 const CALLS: u32 = 20_000;
 
-/// Create, delete, allow, withdraw, recall and lend by number; those that build come more often than those that end.
-const DRAWN: [u32; 16] = [0, 0, 0, 1, 2, 2, 2, 2, 3, 4, 5, 5, 5, 5, 5, 5];
+/// Create, delete, allow, withdraw, recall, lend and allow_set by number; those that build come more often than those
+/// that end.
+const DRAWN: [u32; 18] = [0, 0, 0, 1, 2, 2, 2, 2, 3, 4, 5, 5, 5, 5, 5, 5, 6, 6];
 
 /// Few items, so that commands meet; now and then a number beyond the limits.
 fn number(seeded: &mut Seeded, limit: u32) -> u32 {
@@ -24,18 +25,39 @@ fn arguments(seeded: &mut Seeded) -> Grant {
     Grant { by, to, on, right: number(seeded, 8), depth: number(seeded, 8) }
 }
 
+/// Some of the items that live; now and then any item, or none.
+fn set(seeded: &mut Seeded, live: u64) -> u64 {
+    let any = u64::from(seeded.below(u32::MAX)) << 32 | u64::from(seeded.below(u32::MAX));
+    match seeded.below(16) {
+        0 => 0,
+        1 => any,
+        2 => live | 1 << seeded.below(64),
+        3 => live,
+        _ => live & any,
+    }
+}
+
+/// A command by its number, with all the arguments that any command has.
+#[derive(Clone, Copy, Debug)]
+struct Call {
+    command: u32,
+    g: Grant,
+    set: u64,
+}
+
 /// One command to a unit of one image; lend and recall are passed over.
-fn flat_call<C>(unit: &Flat<C>, image: &mut [C], command: u32, g: Grant) -> u32 {
+fn flat_call<C>(unit: &Flat<C>, image: &mut [C], Call { command, g, set }: Call) -> u32 {
     match command {
         0 => (unit.create)(image, g.by, g.on),
         1 => (unit.delete)(image, g.by, g.on),
         2 => (unit.allow)(image, g),
         3 => (unit.withdraw)(image, g),
+        6 => (unit.allow_set)(image, set, g),
         _ => DONE,
     }
 }
 
-fn chain_call(unit: &Chains, s: &mut ChainState, command: u32, g: Grant) -> u32 {
+fn chain_call(unit: &Chains, s: &mut ChainState, Call { command, g, set }: Call) -> u32 {
     let (grants, loans) = (&mut s.grants[..], &mut s.loans[..]);
     match command {
         0 => (unit.create)(grants, loans, g.by, g.on),
@@ -43,6 +65,7 @@ fn chain_call(unit: &Chains, s: &mut ChainState, command: u32, g: Grant) -> u32 
         2 => (unit.allow)(grants, loans, g),
         3 => (unit.withdraw)(grants, loans, g),
         4 => (unit.recall)(grants, loans, g),
+        6 => (unit.allow_set)(grants, loans, set, g),
         _ => (unit.lend)(grants, loans, g),
     }
 }
@@ -61,10 +84,10 @@ impl Units {
         Units { flat: Pair { lists, rows: fresh_flat(&api.rows, ROWS_BYTES) }, chains }
     }
 
-    fn command(&mut self, api: &Api, command: u32, g: Grant) -> [u32; 3] {
-        let list = flat_call(&api.lists, &mut self.flat.lists, command, g);
-        let row = flat_call(&api.rows, &mut self.flat.rows, command, g);
-        [list, row, chain_call(&api.chains, &mut self.chains, command, g)]
+    fn command(&mut self, api: &Api, call: Call) -> [u32; 3] {
+        let list = flat_call(&api.lists, &mut self.flat.lists, call);
+        let row = flat_call(&api.rows, &mut self.flat.rows, call);
+        [list, row, chain_call(&api.chains, &mut self.chains, call)]
     }
 
     /// What the checks and subject sets say; the chain is held against the state.
@@ -109,11 +132,12 @@ pub fn run() {
     let (mut one, mut other) = (Units::fresh(&ENGINE), Units::fresh(&PLAIN));
     assert!(one == other, "the fresh units differ");
     for _ in 0..CALLS {
-        let (command, g) = (DRAWN[seeded.below(16) as usize], arguments(&mut seeded));
-        assert_eq!(one.command(&ENGINE, command, g), other.command(&PLAIN, command, g), "{command} {g:?}");
+        let (command, g) = (DRAWN[seeded.below(DRAWN.len() as u32) as usize], arguments(&mut seeded));
+        let call = Call { command, g, set: set(&mut seeded, one.flat.lists[0]) };
+        assert_eq!(one.command(&ENGINE, call), other.command(&PLAIN, call), "{call:?}");
         let q = Question { who: g.to, on: g.on, right: g.right };
         assert_eq!(one.asked(&ENGINE, q), other.asked(&PLAIN, q), "{q:?}");
-        assert!(one == other, "the images differ after {command} {g:?}");
+        assert!(one == other, "the images differ after {call:?}");
         judge_torn(&one, &mut seeded);
     }
     one.converts(&ENGINE);

@@ -15,7 +15,11 @@ mod streams;
 use calls::Line;
 
 fn print_calls(title: &str, second: &str, lines: &[Line]) {
-    println!("\n### {title}\n\n| Call | engine, ns | {second}, ns | ratio |\n|---|---:|---:|---:|");
+    print_times(title, ["Call", "engine", second], lines);
+}
+
+fn print_times(title: &str, [what, first, second]: [&str; 3], lines: &[Line]) {
+    println!("\n### {title}\n\n| {what} | {first}, ns | {second}, ns | ratio |\n|---|---:|---:|---:|");
     for Line { name, times } in lines {
         println!("| {name} | {:.0} | {:.0} | {:.2} |", times.first, times.second, times.ratio);
     }
@@ -38,6 +42,7 @@ fn main() {
     print_calls("Conversions", "plain Rust", &calls::conversions());
     print_calls("Chain unit: commands", "plain Rust", &calls::chains());
     print_calls("Chain unit: checks", "plain Rust", &calls::checks());
+    print_times("Sets of 40 members", ["Unit", "40 allows", "one allow_set"], &calls::sets());
     print_calls("In-order scans", "memory read", &scans::scans());
     program::print();
     sizes::print();

@@ -33,6 +33,8 @@ fn all_streams() -> Vec<Stream> {
             streams::SMALL_OPENING,
             30_000,
         ),
+        stream("allows, 64 items", streams::allows(200_000), streams::ITEMS_OPENING, 30_000),
+        stream("allowsets of 40 members, 64 items", streams::allow_sets(200_000), streams::ITEMS_OPENING, 3_000),
         stream("malformed lines", streams::malformed(500_000), 0, 200_000),
         stream("checks, 1,024 loans of the key", streams::full(50_000), streams::FULL_OPENING, 1_700),
     ]

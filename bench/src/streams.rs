@@ -1,4 +1,4 @@
-//! Command lines for the program, and what document 01 says of each, by the plain implementation.
+//! Command lines for the program, and what documents 01 and 02 say of each, by the plain implementation.
 
 use crate::api::*;
 use crate::plain::PLAIN;
@@ -10,6 +10,7 @@ pub enum Line {
     Create(u32, u32),
     Delete(u32, u32),
     Allow(Grant),
+    AllowSet(u64, Grant),
     Withdraw(Grant),
     Lend(Grant),
     Recall(Grant),
@@ -27,6 +28,9 @@ impl Line {
             Line::Create(by, on) => format!("do=create by={by} on={on}"),
             Line::Delete(by, on) => format!("do=delete by={by} on={on}"),
             Line::Allow(g) => grant_text("allow", g),
+            Line::AllowSet(set, g) => {
+                format!("do=allowset by={} set={set:016x} on={} right={} depth={}", g.by, g.on, g.right, g.depth)
+            }
             Line::Withdraw(g) => format!("do=withdraw by={} to={} on={} right={}", g.by, g.to, g.on, g.right),
             Line::Lend(g) => grant_text("lend", g) + " last=0",
             Line::Recall(g) => grant_text("recall", g) + " last=0",
@@ -147,6 +151,26 @@ pub fn full(count: usize) -> Vec<Line> {
     lines
 }
 
+/// The lines that make all 64 items live.
+pub const ITEMS_OPENING: usize = 63;
+
+/// Allows by the root, one line after another, where all items live.
+pub fn allows(count: usize) -> Vec<Line> {
+    let mut seeded = Seeded::new(25);
+    let mut lines: Vec<Line> = (1..=63).map(|on| Line::Create(0, on)).collect();
+    lines.resize_with(count, || Line::Allow(seeded.grant(64)));
+    lines
+}
+
+/// The same with allowsets of 40 members each.
+pub fn allow_sets(count: usize) -> Vec<Line> {
+    let mut seeded = Seeded::new(25);
+    let mut lines: Vec<Line> = (1..=63).map(|on| Line::Create(0, on)).collect();
+    let forty = |first| (u64::MAX >> 24).rotate_left(first);
+    lines.resize_with(count, || Line::AllowSet(forty(seeded.below(64)), seeded.grant(64)));
+    lines
+}
+
 /// The three units, run by the plain implementation.
 struct Units {
     lists: Vec<u64>,
@@ -173,6 +197,9 @@ impl Units {
                 (Some(((lists.delete)(l, by, on), (rows.delete)(r, by, on))), (chains.delete)(g, t, by, on))
             }
             Line::Allow(a) => (Some(((lists.allow)(l, a), (rows.allow)(r, a))), (chains.allow)(g, t, a)),
+            Line::AllowSet(set, a) => {
+                (Some(((lists.allow_set)(l, set, a), (rows.allow_set)(r, set, a))), (chains.allow_set)(g, t, set, a))
+            }
             Line::Withdraw(a) => (Some(((lists.withdraw)(l, a), (rows.withdraw)(r, a))), (chains.withdraw)(g, t, a)),
             Line::Lend(a) => (None, (chains.lend)(g, t, a)),
             Line::Recall(a) => (None, (chains.recall)(g, t, a)),

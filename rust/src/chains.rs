@@ -1,8 +1,8 @@
 use core::mem::MaybeUninit;
 
 use crate::{
-    answer, lent, Depth, Item, Refusal, Right, Shift, CHAIN_PERSONS, GRANTS_BYTES, LOANS_WORDS,
-    NO_PERSON,
+    answer, lent, Depth, Item, ItemSet, Refusal, Right, Shift, CHAIN_PERSONS, GRANTS_BYTES,
+    LOANS_WORDS, NO_PERSON,
 };
 
 /// The chain unit: grants and loans with depths, and the check that follows the loans that carry.
@@ -228,6 +228,43 @@ impl Chains {
     ) -> Result<(), Refusal> {
         let (grants, loans) = (&mut self.grants, &mut self.loans);
         answer(lent::chains::allow(grants, loans, by.0, to.0, on.0, right.0, depth.0))
+    }
+
+    /// Grants the right on the item at the depth to every member of the set: what
+    /// [`allow`](Self::allow) does for each of them, in any order, or nothing where any of them
+    /// would be refused. The empty set is refused with [`Refusal::EmptySet`].
+    ///
+    /// ```
+    /// use rights::{Chains, Depth, Item, ItemSet, Refusal, Right};
+    ///
+    /// let mut unit = Chains::fresh();
+    /// for item in [3, 4, 9] {
+    ///     unit.create(Item(0), Item(item))?;
+    /// }
+    /// let mut set = ItemSet(1 << 3 | 1 << 4 | 1 << 5);
+    /// let refused = unit.allow_set(Item(0), set, Item(9), Right(1), Depth(2));
+    /// assert_eq!(refused, Err(Refusal::NamedDead));
+    /// assert!(!unit.check(Item(3), Item(9), Right(1))?.yes());
+    ///
+    /// set.remove(Item(5));
+    /// unit.allow_set(Item(0), set, Item(9), Right(1), Depth(2))?;
+    /// for member in set {
+    ///     assert_eq!(unit.check(member, Item(9), Right(1))?.depth(), Depth(2));
+    /// }
+    /// let nobody = unit.allow_set(Item(0), ItemSet::EMPTY, Item(9), Right(1), Depth(2));
+    /// assert_eq!(nobody, Err(Refusal::EmptySet));
+    /// # Ok::<(), Refusal>(())
+    /// ```
+    pub fn allow_set(
+        &mut self,
+        by: Item,
+        set: ItemSet,
+        on: Item,
+        right: Right,
+        depth: Depth,
+    ) -> Result<(), Refusal> {
+        let (grants, loans) = (&mut self.grants, &mut self.loans);
+        answer(lent::chains::allow_set(grants, loans, by.0, set.0, on.0, right.0, depth.0))
     }
 
     /// Ends the grants of the right on the item to `to`, at every depth. Loans stay.

@@ -1,4 +1,4 @@
-use crate::{answer, lent, Depth, Item, Refusal, Right, LISTS_WORDS, ROWS_BYTES};
+use crate::{answer, lent, Depth, Item, ItemSet, Refusal, Right, LISTS_WORDS, ROWS_BYTES};
 
 /// A unit without depth that owns its image. `root` is the cell of item 0's grants on itself.
 macro_rules! own_flat {
@@ -55,6 +55,20 @@ macro_rules! own_flat {
                 answer(lent::$unit::allow(&mut self.image, by.0, to.0, on.0, right.0, depth.0))
             }
 
+            /// Grants the right on the item to every member of the set: what
+            /// [`allow`](Self::allow) does for each of them, in any order, or nothing where any of
+            /// them would be refused. The empty set is refused with [`Refusal::EmptySet`].
+            pub fn allow_set(
+                &mut self,
+                by: Item,
+                set: ItemSet,
+                on: Item,
+                right: Right,
+                depth: Depth,
+            ) -> Result<(), Refusal> {
+                answer(lent::$unit::allow_set(&mut self.image, by.0, set.0, on.0, right.0, depth.0))
+            }
+
             /// Ends the grant of the right on the item to `to`.
             pub fn withdraw(
                 &mut self,
@@ -72,7 +86,8 @@ macro_rules! own_flat {
                 answer(number).map(|()| yes != 0)
             }
 
-            /// The persons with at least one grant, bit i for item i.
+            /// The persons with at least one grant, bit i for item i: as items, those of
+            /// `ItemSet(unit.subjects())`.
             #[must_use]
             pub fn subjects(&self) -> u64 {
                 // The engine refuses no image in order, and beside a refusal it names nobody.
@@ -107,6 +122,26 @@ own_flat!(
     /// assert_eq!(Lists::from_image(&stored[1..]), Err(Refusal::WrongLength));
     /// # Ok::<(), Refusal>(())
     /// ```
+    ///
+    /// One command grants a right to many persons, or to none:
+    ///
+    /// ```
+    /// use rights::{Depth, Item, ItemSet, Lists, Refusal, Right};
+    ///
+    /// let mut lists = Lists::fresh();
+    /// for item in [3, 4, 9] {
+    ///     lists.create(Item(0), Item(item))?;
+    /// }
+    /// let mut set = ItemSet(1 << 3 | 1 << 4 | 1 << 5);
+    /// let refused = lists.allow_set(Item(0), set, Item(9), Right(1), Depth(0));
+    /// assert_eq!(refused, Err(Refusal::NamedDead));
+    /// assert_eq!(ItemSet(lists.subjects()), ItemSet(1 << 0));
+    ///
+    /// set.remove(Item(5));
+    /// lists.allow_set(Item(0), set, Item(9), Right(1), Depth(0))?;
+    /// assert_eq!(ItemSet(lists.subjects()), ItemSet(1 << 0 | 1 << 3 | 1 << 4));
+    /// # Ok::<(), Refusal>(())
+    /// ```
     Lists, lists, u64, LISTS_WORDS, root: 1
 );
 
@@ -114,12 +149,14 @@ own_flat!(
     /// Capability rows: for each person and item, the rights granted.
     ///
     /// ```
-    /// use rights::{Depth, Item, Lists, Refusal, Right, Rows};
+    /// use rights::{Depth, Item, ItemSet, Lists, Refusal, Right, Rows};
     ///
     /// let mut rows = Rows::fresh();
     /// rows.create(Item(0), Item(3))?;
     /// rows.allow(Item(0), Item(3), Item(3), Right(7), Depth(0))?;
     /// assert_eq!(rows.image()[8 + 64 * 3 + 3], 1 << 7);
+    /// rows.allow_set(Item(0), ItemSet(1 << 0 | 1 << 3), Item(3), Right(2), Depth(0))?;
+    /// assert_eq!(rows.image()[8 + 64 * 3 + 3], 1 << 7 | 1 << 2);
     /// assert_eq!(Rows::from(&Lists::from(&rows)), rows);
     /// # Ok::<(), Refusal>(())
     /// ```

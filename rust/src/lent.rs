@@ -20,7 +20,8 @@
 /// The functions of a unit without depth, over its one slice.
 macro_rules! lend_flat {
     ($(#[$doc:meta])* $unit:ident, $cell:ty, $fresh:ident, $create:ident, $delete:ident,
-     $allow:ident, $withdraw:ident, $check:ident, $subjects:ident, $inspect:ident) => {
+     $allow:ident, $allow_set:ident, $withdraw:ident, $check:ident, $subjects:ident,
+     $inspect:ident) => {
         $(#[$doc])*
         pub mod $unit {
             use crate::ffi;
@@ -54,6 +55,21 @@ macro_rules! lend_flat {
                 depth: u32,
             ) -> u32 {
                 unsafe { ffi::$allow(image.as_mut_ptr(), image.len(), by, to, on, right, depth) }
+            }
+
+            /// allowset (by, set, on, right, depth), where bit i of the set is for item i; the depth
+            /// is judged and dropped.
+            #[must_use]
+            pub fn allow_set(
+                image: &mut [$cell],
+                by: u32,
+                set: u64,
+                on: u32,
+                right: u32,
+                depth: u32,
+            ) -> u32 {
+                let (at, length) = (image.as_mut_ptr(), image.len());
+                unsafe { ffi::$allow_set(at, length, by, set, on, right, depth) }
             }
 
             /// withdraw (by, to, on, right).
@@ -104,6 +120,8 @@ lend_flat!(
     /// assert_eq!(lists::subjects(&image), (0, 1 << 0 | 1 << 9));
     /// assert_eq!(lists::withdraw(&mut image, 0, 9, 0, 1), 0);
     /// assert_eq!(lists::check(&image, 9, 0, 1), (0, 0));
+    /// assert_eq!(lists::allow_set(&mut image, 0, 1 << 0 | 1 << 9, 0, 1, 0), 0);
+    /// assert_eq!(lists::check(&image, 9, 0, 1), (0, 1));
     /// image[0] = 0;
     /// assert_eq!(lists::inspect(&image), rights::NOT_IN_ORDER);
     /// ```
@@ -113,6 +131,7 @@ lend_flat!(
     rights_lists_create,
     rights_lists_delete,
     rights_lists_allow,
+    rights_lists_allow_set,
     rights_lists_withdraw,
     rights_lists_check,
     rights_lists_subjects,
@@ -129,6 +148,7 @@ lend_flat!(
     /// assert_eq!(rows::fresh(&mut image), 0);
     /// assert_eq!(rows::create(&mut image, 0, 9), 0);
     /// assert_eq!(rows::check(&image, 0, 9, 0), (0, 1));
+    /// assert_eq!(rows::allow_set(&mut image, 0, 1 << 9 | 1 << 63, 9, 1, 0), rights::NAMED_DEAD);
     /// assert_eq!(rows::delete(&mut image, 0, 9), 0);
     /// assert_eq!(rows::check(&image, 0, 9, 0), (0, 0));
     /// assert_eq!(rows::inspect(&image[1..]), rights::WRONG_LENGTH);
@@ -139,6 +159,7 @@ lend_flat!(
     rights_rows_create,
     rights_rows_delete,
     rights_rows_allow,
+    rights_rows_allow_set,
     rights_rows_withdraw,
     rights_rows_check,
     rights_rows_subjects,
@@ -187,6 +208,8 @@ pub mod convert {
 /// let (mut grants, mut loans) = (vec![0; rights::GRANTS_BYTES], vec![0; rights::LOANS_WORDS]);
 /// assert_eq!(chains::fresh(&mut grants, &mut loans), 0);
 /// assert_eq!(chains::create(&mut grants, &mut loans, 0, 9), 0);
+/// assert_eq!(chains::allow_set(&mut grants, &mut loans, 0, 1 << 0 | 1 << 9, 9, 1, 3), 0);
+/// assert_eq!(grants[8 + 512 * 9 + 64..][..10], [1 << 3, 0, 0, 0, 0, 0, 0, 0, 0, 1 << 3]);
 /// assert_eq!(chains::lend(&mut grants, &mut loans, 0, 9, 9, 1, 0, 2), 0);
 /// assert_eq!(loans[0], 1);
 /// assert_eq!(chains::shift(&mut grants, &mut loans, 0, 3), 0);
@@ -225,12 +248,12 @@ pub mod chains {
 
     /// A command of the chain unit, with its arguments in the order of the journal.
     macro_rules! lend_command {
-        ($(#[$doc:meta])* $name:ident, $call:ident, $($argument:ident),*) => {
+        ($(#[$doc:meta])* $name:ident, $call:ident $(, $argument:ident: $kind:ty)*) => {
             $(#[$doc])*
             #[must_use]
             // As many as the command has.
             #[allow(clippy::too_many_arguments)]
-            pub fn $name(grants: &mut [u8], loans: &mut [u32] $(, $argument: u32)*) -> u32 {
+            pub fn $name(grants: &mut [u8], loans: &mut [u32] $(, $argument: $kind)*) -> u32 {
                 unsafe {
                     ffi::$call(
                         grants.as_mut_ptr(),
@@ -246,35 +269,39 @@ pub mod chains {
 
     lend_command!(
         /// Makes a fresh unit, whatever the images held.
-        fresh, rights_chains_fresh,
+        fresh, rights_chains_fresh
     );
     lend_command!(
         /// create (by, on).
-        create, rights_chains_create, by, on
+        create, rights_chains_create, by: u32, on: u32
     );
     lend_command!(
         /// delete (by, on).
-        delete, rights_chains_delete, by, on
+        delete, rights_chains_delete, by: u32, on: u32
     );
     lend_command!(
         /// allow (by, to, on, right, depth).
-        allow, rights_chains_allow, by, to, on, right, depth
+        allow, rights_chains_allow, by: u32, to: u32, on: u32, right: u32, depth: u32
+    );
+    lend_command!(
+        /// allowset (by, set, on, right, depth), where bit i of the set is for item i.
+        allow_set, rights_chains_allow_set, by: u32, set: u64, on: u32, right: u32, depth: u32
     );
     lend_command!(
         /// withdraw (by, to, on, right).
-        withdraw, rights_chains_withdraw, by, to, on, right
+        withdraw, rights_chains_withdraw, by: u32, to: u32, on: u32, right: u32
     );
     lend_command!(
         /// lend (by, to, on, right, depth, last); `last` 0 is a loan that is open-ended.
-        lend, rights_chains_lend, by, to, on, right, depth, last
+        lend, rights_chains_lend, by: u32, to: u32, on: u32, right: u32, depth: u32, last: u32
     );
     lend_command!(
         /// recall (by, to, on, right, depth, last).
-        recall, rights_chains_recall, by, to, on, right, depth, last
+        recall, rights_chains_recall, by: u32, to: u32, on: u32, right: u32, depth: u32, last: u32
     );
     lend_command!(
         /// shift (by, now); `now` becomes the present shift.
-        shift, rights_chains_shift, by, now
+        shift, rights_chains_shift, by: u32, now: u32
     );
 
     /// check (who, on, right), with a buffer of [`CHAIN_PERSONS`](crate::CHAIN_PERSONS) bytes for

@@ -29,6 +29,7 @@ mod chains;
 mod engine;
 pub mod ffi;
 mod flat;
+mod item_set;
 pub mod lent;
 mod numbers;
 mod refusal;
@@ -36,6 +37,7 @@ mod refusal;
 pub use chains::{Chains, CheckAnswer};
 pub use engine::{archive_matches_header, layout_date, version};
 pub use flat::{Lists, Rows};
+pub use item_set::{ItemSet, Items};
 pub use numbers::{Depth, Item, Right, Shift};
 pub use refusal::{answer, NotARefusal, Refusal};
 

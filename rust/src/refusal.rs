@@ -67,6 +67,7 @@ refusals! {
     Malformed = MALFORMED,
     ShiftBack = SHIFT_BACK,
     LastPast = LAST_PAST,
+    EmptySet = EMPTY_SET,
 }
 
 impl fmt::Display for Refusal {

@@ -1,7 +1,7 @@
 //! The chain unit's type on the handover examples of document 01, E1 to E13, its loans open-ended,
-//! and on the story of document 02's request K1.
+//! and on the stories of document 02's requests K1 and K2.
 
-use rights::{Chains, Depth, Item, Refusal, Right, Shift};
+use rights::{Chains, Depth, Item, ItemSet, Refusal, Right, Shift};
 
 const ON: Item = Item(9);
 const RIGHT: Right = Right(1);
@@ -103,4 +103,25 @@ fn loan_for_one_shift() {
     assert_eq!(unit.recall(Item(4), Item(0), ON, RIGHT, Depth(0), Shift(3)), Ok(()));
     assert_eq!(unit.shift(Item(0), Shift(3)), Ok(()));
     assert_eq!(check(&unit, 0), None);
+}
+
+/// K2: "A new wing means forty allow lines, and a slip halfway leaves half a team." Of the forty, 20
+/// to 59, number 41 was not created: nobody gets the right. When it is, one command gives it to all
+/// of them, and to nobody else.
+#[test]
+fn forty_at_once() {
+    let mut unit = base();
+    for on in (20..60).filter(|&on| on != 41) {
+        assert_eq!(unit.create(Item(0), Item(on)), Ok(()));
+    }
+    let team = (20..60).map(Item).collect::<Result<ItemSet, Refusal>>().expect("a set");
+    assert_eq!(team.len(), 40);
+    let open =
+        |unit: &Chains| (0..64).filter(|&who| check(unit, who).is_some()).collect::<Vec<_>>();
+    assert_eq!(unit.allow_set(Item(0), team, ON, RIGHT, Depth(0)), Err(Refusal::NamedDead));
+    assert_eq!(open(&unit), [3, 4, 5]);
+    assert_eq!(unit.create(Item(0), Item(41)), Ok(()));
+    assert_eq!(unit.allow_set(Item(0), team, ON, RIGHT, Depth(0)), Ok(()));
+    assert!(team.iter().all(|member| check(&unit, member.0) == Some((0, vec![member.0]))));
+    assert_eq!(open(&unit), [3, 4, 5].into_iter().chain(20..60).collect::<Vec<_>>());
 }

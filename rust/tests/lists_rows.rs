@@ -7,7 +7,7 @@ mod model;
 use std::collections::BTreeSet;
 
 use engine::Flat;
-use model::commands::{allow, create, delete, withdraw};
+use model::commands::{allow, allow_set, create, delete, withdraw};
 use model::{image_of, Command, Grant, Journal, Layout, ListLayout, RowLayout};
 use rights::lent;
 
@@ -93,6 +93,7 @@ impl Units {
         let mut left = self.clone();
         let commands = [create(0, 1), delete(64, 0), allow(0, 0, 0, 1, 0), withdraw(0, 0, 0, 1)];
         left.give(number, &commands);
+        left.give(number, &[allow_set(0, 1, 0, 1, 0), allow_set(64, 0, 0, 1, 0)]);
         left.check((number, 0), &[(0, 0, 0)]);
         left.subjects(number, 0);
         let held = Units::filled(7, ListLayout::CELLS, RowLayout::CELLS);

@@ -31,7 +31,7 @@ fn refusals_are_the_headers() {
     let header = header();
     let cases = cases(&header);
     assert_eq!(cases[0], (0, "done"));
-    assert!(cases.len() > 13);
+    assert!(cases.len() > 14);
     for &(number, text) in &cases[1..] {
         let refusal = Refusal::try_from(number).expect(text);
         assert_eq!((refusal.number(), refusal.text()), (number, text));
@@ -59,9 +59,9 @@ fn refusals_by_name() {
     ];
     assert_eq!(Refusal::ALL[..10], paper);
     assert_eq!(paper.map(Refusal::number), [1, 2, 3, 4, 5, 6, 7, 8, 9, 10]);
-    let later = [Refusal::Malformed, Refusal::ShiftBack, Refusal::LastPast];
-    assert_eq!(Refusal::ALL[10..13], later);
-    assert_eq!(later.map(Refusal::number), [11, 12, 13]);
+    let later = [Refusal::Malformed, Refusal::ShiftBack, Refusal::LastPast, Refusal::EmptySet];
+    assert_eq!(Refusal::ALL[10..14], later);
+    assert_eq!(later.map(Refusal::number), [11, 12, 13, 14]);
 }
 
 #[test]

@@ -7,9 +7,10 @@ mod model;
 use std::collections::BTreeSet;
 
 use generator::Random;
-use model::commands::{allow, create, delete, lend, recall, shift, withdraw, BASE};
+use model::commands::{allow, allow_set, create, delete, lend, recall, shift, withdraw, BASE};
 use model::{
-    head_of, loan_of, loans_image, loans_in_order, word_of, Ending, Grant, Head, Journal, Loan,
+    head_of, loan_of, loans_image, loans_in_order, word_of, Command, Ending, Grant, Head, Journal,
+    Loan,
 };
 
 const ON: u32 = 9;
@@ -193,6 +194,77 @@ fn past_loans() {
     assert_eq!((journal.dated().count(), journal.shift), (0, 6));
 }
 
+/// The items of a set: "bit i for item i".
+fn set_of(items: &[u32]) -> u64 {
+    items.iter().fold(0, |set, &item| set | 1 << item)
+}
+
+/// "14 when the set is empty, straight after 3", so before 4, 5 and 8; else "the lowest refusal's
+/// number": 5 of the dead member 7, where the others have 8.
+#[test]
+fn numbers_of_allowset() {
+    let journal = base();
+    let answer = |by, set, on, depth| journal.answer(allow_set(by, set, on, RIGHT, depth));
+    assert_eq!([0, 3, 7].map(|by| answer(by, 0, ON, 8)), [3; 3]);
+    assert_eq!([64, 7, 3, 0].map(|by| answer(by, 0, ON, 7)), [3, 14, 14, 14]);
+    assert_eq!([64, 7, 3, 0].map(|by| answer(by, 0, 7, 7)), [3, 14, 14, 14]);
+    let team = set_of(&[3, 4, 5]);
+    assert_eq!([64, 7, 3, 0].map(|by| answer(by, team, ON, 7)), [3, 4, 8, 0]);
+    assert_eq!([64, 7, 3, 0].map(|by| answer(by, team, 7, 7)), [3, 4, 5, 5]);
+    let one_dead = set_of(&[3, 4, 5, 7]);
+    assert_eq!([64, 7, 3, 0].map(|by| answer(by, one_dead, ON, 7)), [3, 4, 5, 5]);
+    assert_eq!(answer(0, u64::MAX, ON, 7), 5);
+}
+
+/// Every order of the commands, each beginning with another or going on otherwise.
+fn orders(commands: &[Command]) -> Vec<Vec<Command>> {
+    if commands.is_empty() {
+        return vec![Vec::new()];
+    }
+    let mut every = Vec::new();
+    for (at, &first) in commands.iter().enumerate() {
+        let others = [&commands[..at], &commands[at + 1..]].concat();
+        every.extend(orders(&others).into_iter().map(|rest| [vec![first], rest].concat()));
+    }
+    every
+}
+
+/// "It does what the single allows do in any order": of a fourth and a fifth member one has the
+/// grant and one has it at another depth. All 120 orders leave the same journal.
+#[test]
+fn allowset_in_every_order() {
+    for right in [0, RIGHT] {
+        let mut before = base();
+        for command in [allow(0, 4, ON, right, 2), allow(0, 5, ON, right, 3)] {
+            assert_eq!(before.give(command), 0);
+        }
+        let mut at_once = before.clone();
+        assert_eq!(at_once.give(allow_set(0, set_of(&[0, 3, 4, 5, 9]), ON, right, 2)), 0);
+        let allows = [9, 5, 4, 3, 0].map(|to| allow(0, to, ON, right, 2));
+        let every = orders(&allows);
+        assert_eq!(every.len(), 120);
+        for order in every {
+            let mut one_by_one = before.clone();
+            assert!(order.iter().all(|&allow| one_by_one.give(allow) == 0));
+            assert_eq!(one_by_one, at_once);
+        }
+    }
+}
+
+/// The single allows that the model does are those of the members, each once, and not in the order
+/// of the items.
+#[test]
+fn single_allows() {
+    let members = [0, 3, 31, 32, 62, 63];
+    let allows = allow_set(1, set_of(&members), 2, 3, 4).single_allows();
+    let due = members.map(|to| allow(1, to, 2, 3, 4));
+    assert_eq!(allows.len(), 6);
+    assert!(due.iter().all(|allow| allows.contains(allow)));
+    assert!(allows != due);
+    assert_eq!(allow_set(1, u64::MAX, 2, 3, 4).single_allows().len(), 64);
+    assert_eq!(allow_set(1, 0, 2, 3, 4).single_allows(), []);
+}
+
 /// The header's sizes and limits are the paper's.
 #[test]
 fn constants() {
@@ -202,7 +274,7 @@ fn constants() {
     assert_eq!((rights::GRANTS_BYTES, rights::LOANS_WORDS), (32_776, 1025));
     assert_eq!((rights::LOANS_MAX, rights::CHAIN_PERSONS, rights::NO_PERSON), (1024, 8, 255));
     assert_eq!((rights::DONE, rights::MALFORMED), (0, 11));
-    assert_eq!((rights::SHIFT_BACK, rights::LAST_PAST), (12, 13));
+    assert_eq!((rights::SHIFT_BACK, rights::LAST_PAST, rights::EMPTY_SET), (12, 13, 14));
 }
 
 /// Every chain there is, walked one by one: its ending and those of all that prolong it.

@@ -4,7 +4,7 @@ use std::mem::MaybeUninit;
 use std::sync::Mutex;
 use std::thread;
 
-use rights::{Chains, Depth, Item, Refusal, Right, Shift};
+use rights::{Chains, Depth, Item, ItemSet, Refusal, Right, Shift};
 
 /// Less than a unit's 36,876 bytes, and more than a call of the engine needs.
 const STACK: usize = 32 * 1024;
@@ -39,6 +39,8 @@ fn stored() -> (Images, Images) {
 fn use_it(unit: &mut Chains) {
     assert_eq!(unit.create(Item(0), Item(3)), Ok(()));
     assert_eq!(unit.allow(Item(0), Item(0), Item(3), Right(1), Depth(2)), Ok(()));
+    let set = ItemSet(1 << 0 | 1 << 3);
+    assert_eq!(unit.allow_set(Item(0), set, Item(0), Right(1), Depth(2)), Ok(()));
     assert_eq!(unit.lend(Item(0), Item(3), Item(3), Right(1), Depth(1), Shift(7)), Ok(()));
     assert_eq!(unit.shift(Item(0), Shift(7)), Ok(()));
     let answer = unit.check(Item(3), Item(3), Right(1)).expect("an answer");

@@ -3,9 +3,9 @@
 
 mod model;
 
-use model::commands::{allow, create, delete, lend, recall, shift, withdraw};
+use model::commands::{allow, allow_set, create, delete, lend, recall, shift, withdraw};
 use model::{image_of, loans_image, Command, GrantLayout, Journal, ListLayout, RowLayout};
-use rights::{answer, lent, Chains, Depth, Item, Lists, Refusal, Right, Rows, Shift};
+use rights::{answer, lent, Chains, Depth, Item, ItemSet, Lists, Refusal, Right, Rows, Shift};
 
 /// A type that owns its images.
 trait Owned {
@@ -24,6 +24,9 @@ macro_rules! by_method {
             Command::Delete { by, on } => $unit.delete(Item(by), Item(on)),
             Command::Allow { by, to, on, right, depth } => {
                 $unit.allow(Item(by), Item(to), Item(on), Right(right), Depth(depth))
+            }
+            Command::AllowSet { by, set, on, right, depth } => {
+                $unit.allow_set(Item(by), ItemSet(set), Item(on), Right(right), Depth(depth))
             }
             Command::Withdraw { by, to, on, right } => {
                 $unit.withdraw(Item(by), Item(to), Item(on), Right(right))
@@ -81,22 +84,29 @@ fn give(unit: &mut impl Owned, journal: &mut Journal, commands: &[Command]) {
 }
 
 /// Items 3, 5, 9 and 12 live, and 3 may edit 9; 3 grants and lends right 5 on 9 to 12, the loan up
-/// to shift 7.
+/// to shift 7, and grants right 6 there to 0 and 12.
 const ITEMS: [Command; 4] = [create(0, 3), create(0, 5), create(3, 9), create(0, 12)];
 const GRANT: Command = allow(3, 12, 9, 5, 2);
+const GRANTS: Command = allow_set(3, 1 << 0 | 1 << 12, 9, 6, 2);
 const END_OF_GRANT: Command = withdraw(3, 12, 9, 5);
 const END_OF_ITEM: Command = delete(3, 9);
 const LOAN: Command = lend(3, 12, 9, 5, 2, 7);
 const END_OF_LOAN: Command = recall(3, 12, 9, 5, 2, 7);
 
-/// One refused command for each number that a command of every unit can have, from 3 on.
-const REFUSED: [(Command, Refusal); 6] = [
+/// One refused command for each number that a command of every unit can have, from 3 on, and one
+/// allowset for each that it can have.
+const REFUSED: [(Command, Refusal); 11] = [
     (create(0, 64), Refusal::OutOfRange),
     (create(7, 8), Refusal::ByDead),
     (withdraw(0, 3, 7, 1), Refusal::NamedDead),
     (create(0, 3), Refusal::AlreadyLive),
     (delete(3, 0), Refusal::RootItem),
     (allow(12, 3, 9, 1, 0), Refusal::NoEdit),
+    (allow_set(3, 1 << 12, 9, 6, 8), Refusal::OutOfRange),
+    (allow_set(3, 0, 9, 6, 1), Refusal::EmptySet),
+    (allow_set(7, 1 << 12, 9, 6, 1), Refusal::ByDead),
+    (allow_set(3, 1 << 12 | 1 << 63, 9, 6, 1), Refusal::NamedDead),
+    (allow_set(12, 1 << 3, 9, 6, 1), Refusal::NoEdit),
 ];
 
 fn refuse(unit: &mut impl Owned, journal: &mut Journal) {
@@ -132,7 +142,7 @@ macro_rules! flat {
             #[test]
             fn commands() {
                 let (mut unit, mut journal) = created();
-                give(&mut unit, &mut journal, &[GRANT]);
+                give(&mut unit, &mut journal, &[GRANT, GRANTS]);
                 refuse(&mut unit, &mut journal);
                 give(&mut unit, &mut journal, &[END_OF_GRANT, END_OF_ITEM]);
             }
@@ -158,6 +168,7 @@ macro_rules! flat {
                 assert_eq!(unit.subjects(), 1 << 0 | 1 << 3);
                 give(&mut unit, &mut journal, &[GRANT]);
                 assert_eq!(unit.subjects(), 1 << 0 | 1 << 3 | 1 << 12);
+                assert!(ItemSet(unit.subjects()).iter().eq([Item(0), Item(3), Item(12)]));
                 give(&mut unit, &mut journal, &[END_OF_ITEM]);
                 assert_eq!(unit.subjects(), 1 << 0);
             }
@@ -218,7 +229,7 @@ mod chains {
 
     #[test]
     fn commands() {
-        let (mut unit, mut journal) = created_and(&[GRANT, LOAN]);
+        let (mut unit, mut journal) = created_and(&[GRANT, GRANTS, LOAN]);
         refuse(&mut unit, &mut journal);
         assert_eq!(unit.give(lend(3, 12, 9, 0, 2, 0)), Err(Refusal::EditRight));
         unit.assert_says(&journal);

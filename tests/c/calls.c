@@ -8,12 +8,16 @@
 #include "rights.h"
 
 /*
- * No two numbers of a call are the same: by, to, on, right, depth, last. A call with any two exchanged is refused or changes another
- * place.
+ * No two numbers of a call are the same: by, to or set, on, right, depth, last. A call with any two exchanged is refused or changes
+ * another place.
  */
 enum { ROOT = 0, OWNER = 5, HOLDER = 11, BORROWER = 47, DRAWER = 23, DEAD = 60 };
-enum { RIGHT = 3, DEPTH = 6, LOAN_DEPTH = 2, LAST = 200 };
+enum { RIGHT = 3, SET_RIGHT = 4, DEPTH = 6, LOAN_DEPTH = 2, LAST = 200 };
 enum { LISTS_SIZE = 8 * RIGHTS_LISTS_WORDS, LOANS_SIZE = 4 * RIGHTS_LOANS_WORDS };
+
+/* A set of items: bit i for item i. One of these three stands in the upper half. */
+#define MEMBER(item) ((uint64_t)1 << (item))
+#define SET (MEMBER(ROOT) | MEMBER(HOLDER) | MEMBER(BORROWER))
 
 /* What the engine is lent, and beside it what that must hold. */
 static uint64_t lists[RIGHTS_LISTS_WORDS], lists_due[RIGHTS_LISTS_WORDS];
@@ -127,12 +131,40 @@ static uint32_t loan(uint32_t last, uint32_t lender, uint32_t on, uint32_t right
         returned(#unit " inspect, no item lives", rights_##unit##_inspect(L, N), 2); \
         L[0] = L##_due[0] = unit##_live; \
     } \
+    /* The right to each member of the set, the holder among them, who has it already. */ \
+    static void unit##_set_grants(int stands) \
+    { \
+        unit##_grant(ROOT, DRAWER, RIGHT, stands); \
+        unit##_grant(HOLDER, DRAWER, RIGHT, stands); \
+        unit##_grant(BORROWER, DRAWER, RIGHT, stands); \
+    } \
+    static void unit##_sets(void) \
+    { \
+        returned(#unit " allow_set, a dead member", rights_##unit##_allow_set(L, N, OWNER, SET, DRAWER, RIGHT, DEPTH), 5); \
+        unit##_item(BORROWER, 1); \
+        unit##_grant(ROOT, BORROWER, 0, 1); \
+        returned(#unit " create", rights_##unit##_create(L, N, ROOT, BORROWER), 0); \
+        unit##_set_grants(1); \
+        returned(#unit " allow_set", rights_##unit##_allow_set(L, N, OWNER, SET, DRAWER, RIGHT, DEPTH), 0); \
+        returned(#unit " allow_set, again", rights_##unit##_allow_set(L, N, OWNER, SET, DRAWER, RIGHT, DEPTH), 0); \
+        returned(#unit " allow_set, every item", rights_##unit##_allow_set(L, N, OWNER, UINT64_MAX, DRAWER, RIGHT, DEPTH), 5); \
+        returned(#unit " allow_set, no member", rights_##unit##_allow_set(L, N, OWNER, 0, DRAWER, RIGHT, DEPTH), 14); \
+        returned(#unit " allow_set, no member, by dead", rights_##unit##_allow_set(L, N, DEAD, 0, DRAWER, RIGHT, DEPTH), 14); \
+        returned(#unit " allow_set, no member, depth 8", rights_##unit##_allow_set(L, N, OWNER, 0, DRAWER, RIGHT, 8), 3); \
+        returned(#unit " allow_set, right 8", rights_##unit##_allow_set(L, N, OWNER, SET, DRAWER, 8, DEPTH), 3); \
+        returned(#unit " allow_set, by 64", rights_##unit##_allow_set(L, N, 64, SET, DRAWER, RIGHT, DEPTH), 3); \
+        returned(#unit " allow_set, on 64", rights_##unit##_allow_set(L, N, OWNER, SET, 64, RIGHT, DEPTH), 3); \
+        returned(#unit " allow_set, by dead", rights_##unit##_allow_set(L, N, DEAD, SET, DRAWER, RIGHT, DEPTH), 4); \
+        returned(#unit " allow_set, on dead", rights_##unit##_allow_set(L, N, OWNER, SET, DEAD, RIGHT, DEPTH), 5); \
+        returned(#unit " allow_set by another", rights_##unit##_allow_set(L, N, HOLDER, SET, DRAWER, RIGHT, DEPTH), 8); \
+    } \
     static void unit##_endings(void) \
     { \
         returned(#unit " allow, depth 8", rights_##unit##_allow(L, N, OWNER, HOLDER, DRAWER, RIGHT, 8), 3); \
         returned(#unit " allow by another", rights_##unit##_allow(L, N, HOLDER, OWNER, DRAWER, RIGHT, DEPTH), 8); \
         unit##_grant(HOLDER, DRAWER, RIGHT, 0); \
         returned(#unit " withdraw", rights_##unit##_withdraw(L, N, OWNER, HOLDER, DRAWER, RIGHT), 0); \
+        unit##_set_grants(0); \
         unit##_grant(OWNER, DRAWER, 0, 0); \
         unit##_item(DRAWER, 0); \
         returned(#unit " delete", rights_##unit##_delete(L, N, OWNER, DRAWER), 0); \
@@ -145,6 +177,7 @@ static uint32_t loan(uint32_t last, uint32_t lender, uint32_t on, uint32_t right
         returned(#unit " create, length", rights_##unit##_create(L, N - 1, ROOT, DEAD), 1); \
         returned(#unit " delete, length", rights_##unit##_delete(L, N - 1, ROOT, OWNER), 1); \
         returned(#unit " allow, length", rights_##unit##_allow(L, N - 1, ROOT, HOLDER, OWNER, RIGHT, DEPTH), 1); \
+        returned(#unit " allow_set, length", rights_##unit##_allow_set(L, N - 1, ROOT, SET, OWNER, RIGHT, DEPTH), 1); \
         returned(#unit " withdraw, length", rights_##unit##_withdraw(L, N - 1, OWNER, HOLDER, DRAWER, RIGHT), 1); \
         returned(#unit " check, length", rights_##unit##_check(L, N - 1, HOLDER, DRAWER, RIGHT, &yes), 1); \
         returned(#unit " subjects, length", rights_##unit##_subjects(L, N - 1, &persons), 1); \
@@ -199,6 +232,34 @@ static void chains_grants(void)
     returned("chains allow", rights_chains_allow(UNIT, OWNER, HOLDER, DRAWER, RIGHT, DEPTH), 0);
     grants_grant(HOLDER, DRAWER, RIGHT, 1, 1);
     returned("chains allow", rights_chains_allow(UNIT, OWNER, HOLDER, DRAWER, RIGHT, 1), 0);
+}
+
+/* The right at that depth to each member of the set, beside what it has. */
+static void chains_set_grants(unsigned depth, int stands)
+{
+    grants_grant(ROOT, DRAWER, SET_RIGHT, depth, stands);
+    grants_grant(HOLDER, DRAWER, SET_RIGHT, depth, stands);
+    grants_grant(BORROWER, DRAWER, SET_RIGHT, depth, stands);
+}
+
+static void chains_sets(void)
+{
+    chains_set_grants(DEPTH, 1);
+    returned("chains allow_set", rights_chains_allow_set(UNIT, OWNER, SET, DRAWER, SET_RIGHT, DEPTH), 0);
+    chains_set_grants(1, 1);
+    returned("chains allow_set", rights_chains_allow_set(UNIT, OWNER, SET, DRAWER, SET_RIGHT, 1), 0);
+    returned("chains allow_set, again", rights_chains_allow_set(UNIT, OWNER, SET, DRAWER, SET_RIGHT, DEPTH), 0);
+    returned("chains allow_set, a dead member", rights_chains_allow_set(UNIT, OWNER, SET | MEMBER(DEAD), DRAWER, SET_RIGHT, 2), 5);
+    returned("chains allow_set, every item", rights_chains_allow_set(UNIT, OWNER, UINT64_MAX, DRAWER, SET_RIGHT, 2), 5);
+    returned("chains allow_set, no member", rights_chains_allow_set(UNIT, OWNER, 0, DRAWER, SET_RIGHT, 2), 14);
+    returned("chains allow_set, no member, by dead", rights_chains_allow_set(UNIT, DEAD, 0, DRAWER, SET_RIGHT, 2), 14);
+    returned("chains allow_set, no member, depth 8", rights_chains_allow_set(UNIT, OWNER, 0, DRAWER, SET_RIGHT, 8), 3);
+    returned("chains allow_set, right 8", rights_chains_allow_set(UNIT, OWNER, SET, DRAWER, 8, 2), 3);
+    returned("chains allow_set, by 64", rights_chains_allow_set(UNIT, 64, SET, DRAWER, SET_RIGHT, 2), 3);
+    returned("chains allow_set, on 64", rights_chains_allow_set(UNIT, OWNER, SET, 64, SET_RIGHT, 2), 3);
+    returned("chains allow_set, by dead", rights_chains_allow_set(UNIT, DEAD, SET, DRAWER, SET_RIGHT, 2), 4);
+    returned("chains allow_set, on dead", rights_chains_allow_set(UNIT, OWNER, SET, DEAD, SET_RIGHT, 2), 5);
+    returned("chains allow_set by another", rights_chains_allow_set(UNIT, HOLDER, SET, DRAWER, SET_RIGHT, 2), 8);
 }
 
 /* The loan with a last shift is the greater, though its lender is the less. */
@@ -314,6 +375,7 @@ static void chains_refusals(void)
     returned("chains create, length", rights_chains_create(SHORT, ROOT, DEAD), 1); \
     returned("chains delete, length", rights_chains_delete(SHORT, OWNER, DRAWER), 1); \
     returned("chains allow, length", rights_chains_allow(SHORT, OWNER, HOLDER, DRAWER, RIGHT, DEPTH), 1); \
+    returned("chains allow_set, length", rights_chains_allow_set(SHORT, OWNER, SET, DRAWER, RIGHT, DEPTH), 1); \
     returned("chains withdraw, length", rights_chains_withdraw(SHORT, OWNER, HOLDER, DRAWER, RIGHT), 1); \
     returned("chains lend, length", rights_chains_lend(SHORT, HOLDER, BORROWER, DRAWER, RIGHT, DEPTH, LAST), 1); \
     returned("chains recall, length", rights_chains_recall(SHORT, HOLDER, BORROWER, DRAWER, RIGHT, LOAN_DEPTH, LAST), 1); \
@@ -337,6 +399,8 @@ static void chains_endings(void)
     grants_grant(HOLDER, DRAWER, RIGHT, DEPTH, 0);
     grants_grant(HOLDER, DRAWER, RIGHT, 1, 0);
     returned("chains withdraw", rights_chains_withdraw(UNIT, OWNER, HOLDER, DRAWER, RIGHT), 0);
+    chains_set_grants(DEPTH, 0);
+    chains_set_grants(1, 0);
     grants_grant(OWNER, DRAWER, 0, 0, 0);
     grants_item(DRAWER, 0);
     loans_due[0]--;
@@ -355,9 +419,9 @@ static void engine(void)
 /* Every number has a text of its own, and every other number the same one. */
 static void texts(void)
 {
-    const char *other = rights_text(RIGHTS_LAST_PAST + 1);
+    const char *other = rights_text(RIGHTS_EMPTY_SET + 1);
     same("text", "that of 4294967295 for no number", (uint64_t)strcmp(rights_text(UINT32_MAX), other), 0);
-    for (uint32_t n = RIGHTS_DONE; n <= RIGHTS_LAST_PAST; n++) {
+    for (uint32_t n = RIGHTS_DONE; n <= RIGHTS_EMPTY_SET; n++) {
         same("text", "one of no letters", strlen(rights_text(n)) == 0, 0);
         same("text", "that of no number", strcmp(rights_text(n), other) == 0, 0);
         for (uint32_t m = RIGHTS_DONE; m < n; m++)
@@ -373,12 +437,15 @@ int main(void)
     lists_answers();
     rows_grants();
     rows_answers();
+    lists_sets();
+    rows_sets();
     conversions();
     lists_endings();
     rows_endings();
     lists_lengths();
     rows_lengths();
     chains_grants();
+    chains_sets();
     chains_loans();
     chains_answers();
     chains_shifts();

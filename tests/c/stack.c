@@ -23,6 +23,9 @@ static uint8_t rows[RIGHTS_ROWS_BYTES];
 static uint8_t grants[RIGHTS_GRANTS_BYTES];
 static uint32_t loans[RIGHTS_LOANS_WORDS];
 
+/* The set of every item but the dead one. */
+#define SET (~((uint64_t)1 << DEAD))
+
 static uint32_t number, yes, depth, persons;
 static uint64_t persons_set;
 static uint8_t chain[RIGHTS_CHAIN_PERSONS];
@@ -46,6 +49,7 @@ static uint8_t chain[RIGHTS_CHAIN_PERSONS];
     CALL(unit##_create, __VA_ARGS__, 0, DEAD) \
     CALL(unit##_delete, __VA_ARGS__, 0, DEAD) \
     CALL(unit##_allow, __VA_ARGS__, 0, LENDER, DRAWER, RIGHT, 7) \
+    CALL(unit##_allow_set, __VA_ARGS__, 0, SET, DRAWER, RIGHT, 7) \
     CALL(unit##_withdraw, __VA_ARGS__, 0, LENDER, DRAWER, RIGHT) \
     CALL(unit##_check, __VA_ARGS__, LENDER, DRAWER, RIGHT, &yes) \
     CALL(unit##_subjects, __VA_ARGS__, &persons_set) \
@@ -59,6 +63,7 @@ CALL(chains_fresh, UNIT)
 CALL(chains_create, UNIT, 0, DEAD)
 CALL(chains_delete, UNIT, 0, DEAD)
 CALL(chains_allow, UNIT, 0, LENDER, DRAWER, RIGHT, 7)
+CALL(chains_allow_set, UNIT, 0, SET, DRAWER, RIGHT, 7)
 CALL(chains_withdraw, UNIT, 0, LENDER, DRAWER, RIGHT)
 CALL(chains_lend, UNIT, LENDER, 0, DRAWER, RIGHT, 7, LAST)
 CALL(chains_recall, UNIT, LENDER, 0, DRAWER, RIGHT, 7, LAST)
@@ -74,13 +79,15 @@ static const struct {
     void (*call)(void);
 } calls[] = {
     {"lists_inspect", lists_inspect}, {"lists_check", lists_check}, {"lists_subjects", lists_subjects}, {"lists_allow", lists_allow},
-    {"lists_withdraw", lists_withdraw}, {"lists_create", lists_create}, {"lists_delete", lists_delete},
-    {"lists_to_rows", lists_to_rows}, {"rows_inspect", rows_inspect}, {"rows_check", rows_check}, {"rows_subjects", rows_subjects},
-    {"rows_allow", rows_allow}, {"rows_withdraw", rows_withdraw}, {"rows_create", rows_create}, {"rows_delete", rows_delete},
-    {"rows_to_lists", rows_to_lists}, {"lists_fresh", lists_fresh}, {"rows_fresh", rows_fresh}, {"chains_inspect", chains_inspect},
-    {"chains_check", chains_check}, {"chains_allow", chains_allow}, {"chains_lend", chains_lend}, {"chains_recall", chains_recall},
-    {"chains_create", chains_create}, {"chains_delete", chains_delete}, {"chains_withdraw", chains_withdraw},
-    {"chains_shift", chains_shift}, {"chains_fresh", chains_fresh}, {"version", version}, {"layout_date", layout_date},
+    {"lists_allow_set", lists_allow_set}, {"lists_withdraw", lists_withdraw}, {"lists_create", lists_create},
+    {"lists_delete", lists_delete}, {"lists_to_rows", lists_to_rows}, {"rows_inspect", rows_inspect}, {"rows_check", rows_check},
+    {"rows_subjects", rows_subjects}, {"rows_allow", rows_allow}, {"rows_allow_set", rows_allow_set},
+    {"rows_withdraw", rows_withdraw}, {"rows_create", rows_create}, {"rows_delete", rows_delete}, {"rows_to_lists", rows_to_lists},
+    {"lists_fresh", lists_fresh}, {"rows_fresh", rows_fresh}, {"chains_inspect", chains_inspect}, {"chains_check", chains_check},
+    {"chains_allow", chains_allow}, {"chains_allow_set", chains_allow_set}, {"chains_lend", chains_lend},
+    {"chains_recall", chains_recall}, {"chains_create", chains_create}, {"chains_delete", chains_delete},
+    {"chains_withdraw", chains_withdraw}, {"chains_shift", chains_shift}, {"chains_fresh", chains_fresh}, {"version", version},
+    {"layout_date", layout_date},
 };
 enum { CALLS = sizeof calls / sizeof calls[0] };
 

@@ -1,7 +1,7 @@
 //! The chain unit: grants with depths, loans, and the check that follows them.
 
 use super::search::Reach;
-use super::{cells_in_order, in_range, live_set, lives_in, loans, named, number, require, Answer, Unit};
+use super::{bits, cells_in_order, in_range, live_set, loans, named, number, require, Answer, Unit};
 use crate::api::{self, *};
 
 struct Chains<'a> {
@@ -18,8 +18,8 @@ impl Unit for Chains<'_> {
         order(self.grants, self.loans)
     }
 
-    fn lives(&self, item: u32) -> bool {
-        lives_in(live_set(self.grants), item)
+    fn live(&self) -> u64 {
+        live_set(self.grants)
     }
 
     fn holds(&self, who: u32, on: u32, right: u32) -> bool {
@@ -40,6 +40,11 @@ impl Unit for Chains<'_> {
 
     fn put_grant(&mut self, to: u32, on: u32, right: u32, depth: u32) {
         self.grants[place(to, on, right)] |= 1 << depth;
+    }
+
+    fn put_grants(&mut self, set: u64, on: u32, right: u32, depth: u32) {
+        let own = place(0, on, right);
+        bits(set).for_each(|to| self.grants[own + to] |= 1 << depth);
     }
 
     fn drop_grants(&mut self, to: u32, on: u32, right: u32) {
@@ -113,6 +118,7 @@ pub const UNIT: api::Chains = api::Chains {
     create: |grants, loans, by, on| super::create(&mut Chains { grants, loans }, by, on),
     delete: |grants, loans, by, on| super::delete(&mut Chains { grants, loans }, by, on),
     allow: |grants, loans, g| super::allow(&mut Chains { grants, loans }, g),
+    allow_set: |grants, loans, set, g| super::allow_set(&mut Chains { grants, loans }, set, g),
     withdraw: |grants, loans, g| super::withdraw(&mut Chains { grants, loans }, g),
     lend: |grants, loans, g| number(try_lend(&mut Chains { grants, loans }, g)),
     recall: |grants, loans, g| number(try_recall(&mut Chains { grants, loans }, g)),

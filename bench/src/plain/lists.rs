@@ -19,8 +19,8 @@ impl Unit for [u64] {
         require(live & 1 == 1 && bad == 0, NOT_IN_ORDER)
     }
 
-    fn lives(&self, item: u32) -> bool {
-        lives_in(self[0], item)
+    fn live(&self) -> u64 {
+        self[0]
     }
 
     fn holds(&self, who: u32, on: u32, right: u32) -> bool {
@@ -39,6 +39,10 @@ impl Unit for [u64] {
 
     fn put_grant(&mut self, to: u32, on: u32, right: u32, _depth: u32) {
         self[place(on, right)] |= 1 << to;
+    }
+
+    fn put_grants(&mut self, set: u64, on: u32, right: u32, _depth: u32) {
+        self[place(on, right)] |= set;
     }
 
     fn drop_grants(&mut self, to: u32, on: u32, right: u32) {

@@ -34,12 +34,19 @@ pub fn in_range(items: &[u32], right: u32, depth: u32) -> Answer {
 pub trait Unit {
     /// Numbers 1 and 2.
     fn order(&self) -> Answer;
-    fn lives(&self, item: u32) -> bool;
+    /// The live set.
+    fn live(&self) -> u64;
     fn holds(&self, who: u32, on: u32, right: u32) -> bool;
     fn put_item(&mut self, on: u32);
     fn drop_item(&mut self, on: u32);
     fn put_grant(&mut self, to: u32, on: u32, right: u32, depth: u32);
+    /// The grant to every member of the set.
+    fn put_grants(&mut self, set: u64, on: u32, right: u32, depth: u32);
     fn drop_grants(&mut self, to: u32, on: u32, right: u32);
+
+    fn lives(&self, item: u32) -> bool {
+        lives_in(self.live(), item)
+    }
 }
 
 /// A unit of one image, which can be asked for a grant and for its subjects.
@@ -83,6 +90,17 @@ fn try_allow(unit: &mut (impl Unit + ?Sized), g: Grant) -> Answer {
     Ok(())
 }
 
+fn try_allow_set(unit: &mut (impl Unit + ?Sized), set: u64, g: Grant) -> Answer {
+    unit.order()?;
+    in_range(&[g.by, g.on], g.right, g.depth)?;
+    require(set != 0, EMPTY_SET)?;
+    require(unit.lives(g.by), BY_DEAD)?;
+    require(unit.lives(g.on) && set & !unit.live() == 0, NAMED_DEAD)?;
+    require(unit.holds(g.by, g.on, 0), NO_EDIT)?;
+    unit.put_grants(set, g.on, g.right, g.depth);
+    Ok(())
+}
+
 fn try_withdraw(unit: &mut (impl Unit + ?Sized), g: Grant) -> Answer {
     named(unit, g, 0)?;
     require(unit.holds(g.by, g.on, 0), NO_EDIT)?;
@@ -100,6 +118,10 @@ pub fn delete<U: Unit + ?Sized>(unit: &mut U, by: u32, on: u32) -> u32 {
 
 pub fn allow<U: Unit + ?Sized>(unit: &mut U, g: Grant) -> u32 {
     number(try_allow(unit, g))
+}
+
+pub fn allow_set<U: Unit + ?Sized>(unit: &mut U, set: u64, g: Grant) -> u32 {
+    number(try_allow_set(unit, set, g))
 }
 
 pub fn withdraw<U: Unit + ?Sized>(unit: &mut U, g: Grant) -> u32 {
@@ -184,6 +206,7 @@ pub const PLAIN: Api = Api {
         create: create::<[u64]>,
         delete: delete::<[u64]>,
         allow: allow::<[u64]>,
+        allow_set: allow_set::<[u64]>,
         withdraw: withdraw::<[u64]>,
         check: check::<[u64]>,
         subjects: subjects::<[u64]>,
@@ -194,6 +217,7 @@ pub const PLAIN: Api = Api {
         create: create::<[u8]>,
         delete: delete::<[u8]>,
         allow: allow::<[u8]>,
+        allow_set: allow_set::<[u8]>,
         withdraw: withdraw::<[u8]>,
         check: check::<[u8]>,
         subjects: subjects::<[u8]>,

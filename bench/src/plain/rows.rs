@@ -1,6 +1,6 @@
 //! Capability rows: a byte of rights for each person and item.
 
-use super::{cells_in_order, live_set, lives_in, require, Answer, Image, Unit};
+use super::{bits, cells_in_order, live_set, require, Answer, Image, Unit};
 use crate::api::*;
 
 fn place(who: u32, on: u32) -> usize {
@@ -13,8 +13,8 @@ impl Unit for [u8] {
         require(cells_in_order::<1>(self), NOT_IN_ORDER)
     }
 
-    fn lives(&self, item: u32) -> bool {
-        lives_in(live_set(self), item)
+    fn live(&self) -> u64 {
+        live_set(self)
     }
 
     fn holds(&self, who: u32, on: u32, right: u32) -> bool {
@@ -34,6 +34,10 @@ impl Unit for [u8] {
 
     fn put_grant(&mut self, to: u32, on: u32, right: u32, _depth: u32) {
         self[place(to, on)] |= 1 << right;
+    }
+
+    fn put_grants(&mut self, set: u64, on: u32, right: u32, _depth: u32) {
+        bits(set).for_each(|to| self[place(to as u32, on)] |= 1 << right);
     }
 
     fn drop_grants(&mut self, to: u32, on: u32, right: u32) {

@@ -36,6 +36,9 @@ macro_rules! flat {
                     Command::Allow { by, to, on, right, depth } => {
                         Some(lent::$unit::allow(image, by, to, on, right, depth))
                     }
+                    Command::AllowSet { by, set, on, right, depth } => {
+                        Some(lent::$unit::allow_set(image, by, set, on, right, depth))
+                    }
                     Command::Withdraw { by, to, on, right } => {
                         Some(lent::$unit::withdraw(image, by, to, on, right))
                     }
@@ -71,6 +74,9 @@ pub fn give_chains(grants: &mut [u8], loans: &mut [u32], command: Command) -> u3
         Command::Delete { by, on } => lent::chains::delete(grants, loans, by, on),
         Command::Allow { by, to, on, right, depth } => {
             lent::chains::allow(grants, loans, by, to, on, right, depth)
+        }
+        Command::AllowSet { by, set, on, right, depth } => {
+            lent::chains::allow_set(grants, loans, by, set, on, right, depth)
         }
         Command::Withdraw { by, to, on, right } => {
             lent::chains::withdraw(grants, loans, by, to, on, right)

@@ -3,7 +3,7 @@
 
 use crate::damage::wrong_length;
 use crate::engine::{check_chains, give_chains, Flat};
-use crate::generator::Generator;
+use crate::generator::{Generator, FLAT_KINDS, KINDS};
 use crate::guarded::{Guarded, Side};
 use crate::judge::{flat_answer, judge_chain};
 use crate::model::{
@@ -58,7 +58,7 @@ impl<U: Flat> FlatImage<'_, U> {
     /// Every call; the number that the image is refused with.
     pub fn try_all(&self, generator: &mut Generator, base: &Journal) -> u32 {
         let state = flat_state::<U>(self.cells);
-        for kind in 0..4 {
+        for kind in 0..FLAT_KINDS {
             self.command(&state, generator.of_kind(kind, base));
         }
         self.reads(&state, generator.question(base));
@@ -160,7 +160,7 @@ impl ChainImages<'_> {
     /// Every call; the number that the images are refused with.
     pub fn try_all(&self, generator: &mut Generator, base: &Journal) -> u32 {
         let state = chain_state(self.grants, self.loans);
-        for kind in 0..7 {
+        for kind in 0..KINDS {
             self.command(&state, generator.of_kind(kind, base));
         }
         let question = generator.question(base);

@@ -57,6 +57,10 @@ impl Drop for Trace {
     }
 }
 
+/// The kinds of commands; those that lists and rows have come first.
+pub const KINDS: usize = 8;
+pub const FLAT_KINDS: usize = 5;
+
 /// What a list of commands favours.
 #[derive(Clone, Copy, Debug)]
 pub struct Bias {
@@ -65,8 +69,8 @@ pub struct Bias {
     pub items: u32,
     /// Rights in play, from 0.
     pub rights: u32,
-    /// Shares of create, delete, allow, withdraw, lend, recall, shift.
-    pub shares: [u32; 7],
+    /// Shares of the kinds: create, delete, allow, allowset, withdraw, lend, recall, shift.
+    pub shares: [u32; KINDS],
     /// Percent of loans with a last shift.
     pub dated: u32,
     /// Percent of commands on one item and right.
@@ -88,7 +92,7 @@ const EVEN: Bias = Bias {
     name: "few items",
     items: 6,
     rights: 3,
-    shares: [10, 5, 30, 10, 30, 15, 4],
+    shares: [10, 5, 30, 3, 10, 30, 15, 4],
     dated: 30,
     on_key: 0,
     held: 30,
@@ -97,13 +101,13 @@ const EVEN: Bias = Bias {
     length: 2_000,
 };
 
-pub const BIASES: [Bias; 9] = [
+pub const BIASES: [Bias; 10] = [
     EVEN,
-    Bias { name: "one key", items: 10, shares: [5, 1, 20, 8, 50, 16, 4], on_key: 90, ..EVEN },
+    Bias { name: "one key", items: 10, shares: [5, 1, 20, 1, 8, 50, 16, 4], on_key: 90, ..EVEN },
     Bias {
         name: "long chains",
         items: 16,
-        shares: [12, 1, 3, 7, 60, 15, 2],
+        shares: [12, 1, 3, 0, 7, 60, 15, 2],
         dated: 10,
         on_key: 97,
         held: 0,
@@ -113,7 +117,7 @@ pub const BIASES: [Bias; 9] = [
     Bias {
         name: "delete and create",
         items: 8,
-        shares: [28, 15, 25, 2, 28, 2, 10],
+        shares: [28, 15, 25, 5, 2, 28, 2, 10],
         on_key: 60,
         length: 400,
         ..EVEN
@@ -122,7 +126,7 @@ pub const BIASES: [Bias; 9] = [
         name: "full loans",
         items: 64,
         rights: 8,
-        shares: [2, 0, 6, 1, 88, 3, 2],
+        shares: [2, 0, 6, 4, 1, 88, 3, 2],
         wild: 0,
         length: 3_000,
         ..EVEN
@@ -130,21 +134,30 @@ pub const BIASES: [Bias; 9] = [
     Bias {
         name: "full loans of one key",
         items: 64,
-        shares: [2, 0, 6, 2, 86, 4, 2],
+        shares: [2, 0, 6, 1, 2, 86, 4, 2],
         on_key: 98,
         wild: 0,
         length: 3_000,
         ..EVEN
     },
     Bias { name: "beyond the limits", items: 64, rights: 8, wild: 25, length: 1_000, ..EVEN },
-    Bias { name: "many grants", items: 64, rights: 8, shares: [10, 2, 70, 8, 5, 5, 2], ..EVEN },
+    Bias { name: "many grants", items: 64, rights: 8, shares: [10, 2, 70, 4, 8, 5, 5, 2], ..EVEN },
     Bias {
         name: "shift after shift",
         items: 8,
-        shares: [6, 2, 6, 8, 34, 34, 16],
+        shares: [6, 2, 6, 1, 8, 34, 34, 16],
         dated: 70,
         on_key: 80,
         held: 80,
+        ..EVEN
+    },
+    Bias {
+        name: "sets of items",
+        items: 64,
+        rights: 4,
+        shares: [8, 3, 8, 45, 14, 10, 4, 2],
+        on_key: 40,
+        length: 1_000,
         ..EVEN
     },
 ];
@@ -152,14 +165,21 @@ pub const BIASES: [Bias; 9] = [
 /// Numbers at and past the limits, and those that look small where a field is cut.
 const WILD: [u32; 14] = [0, 7, 8, 62, 63, 64, 65, 127, 128, 255, 256, 1 << 24, 1 << 31, u32::MAX];
 
+/// The bit of an item in a set; none beyond the limit.
+fn bit(item: u32) -> u64 {
+    1u64.checked_shl(item).unwrap_or(0)
+}
+
 pub struct Generator {
     pub random: Random,
     bias: Bias,
+    /// The last allowset.
+    allow_set: Option<Command>,
 }
 
 impl Generator {
     pub fn new(seed: u64, bias: Bias) -> Self {
-        Self { random: Random::new(seed), bias }
+        Self { random: Random::new(seed), bias, allow_set: None }
     }
 
     /// The next command of a list; `step` counts from 0. A list begins with its items.
@@ -189,11 +209,57 @@ impl Generator {
                 Command::Delete { by: self.editor(journal, on), on }
             }
             2 => Command::Allow { by: self.editor(journal, on), to, on, right, depth },
-            3 => self.withdraw(journal),
-            4 => self.lend(journal, on, right),
-            5 => self.recall(journal),
+            3 => self.allow_set(journal, on, right),
+            4 => self.withdraw(journal),
+            5 => self.lend(journal, on, right),
+            6 => self.recall(journal),
             _ => Command::Shift { by: self.editor(journal, 0), now: self.now(journal) },
         }
+    }
+
+    /// An allowset, at times the last one again, or one with dead names or a number beyond the limit
+    /// beside its set.
+    fn allow_set(&mut self, journal: &Journal, on: u32, right: u32) -> Command {
+        let last = self.allow_set.filter(|_| self.random.percent(12));
+        let command = last.unwrap_or_else(|| {
+            let on = if self.random.percent(12) { self.dead(journal) } else { on };
+            let by_dead = self.random.percent(15);
+            let by = if by_dead { self.dead(journal) } else { self.editor(journal, on) };
+            let (set, depth) = (self.set(journal, by), self.depth());
+            let (right, depth) = match self.random.below(100) {
+                0..=4 => (8, depth),
+                5..=9 => (right, 8),
+                _ => (right, depth),
+            };
+            Command::AllowSet { by, set, on, right, depth }
+        });
+        self.allow_set = Some(command);
+        command
+    }
+
+    /// Of the items that live all, some, one, with `by` or without, or with one that is dead; at
+    /// times none, or anything.
+    fn set(&mut self, journal: &Journal, by: u32) -> u64 {
+        let live = journal.live.iter().fold(0, |set, &item| set | bit(item));
+        let some = self.random.next();
+        match self.random.below(100) {
+            0..=13 => 0,
+            14..=26 => live,
+            27..=35 => some & live | bit(self.dead(journal)),
+            36..=43 => some & live | bit(63),
+            44..=50 => bit(self.living(journal)),
+            51..=64 => (some | bit(0) | bit(63) | bit(by)) & live,
+            65..=71 => some & live & !bit(by),
+            72..=94 => some & live,
+            95..=97 => some,
+            _ => self.random.pick(&[bit(0), bit(63), u32::MAX.into(), u64::MAX]),
+        }
+    }
+
+    /// An item that is dead; 64 where all live.
+    fn dead(&mut self, journal: &Journal) -> u32 {
+        let from = self.random.below(64);
+        (from..64).chain(0..from).find(|&item| !journal.lives(item)).unwrap_or(64)
     }
 
     /// A grant that stands, or one of right 0 now and then, or any.

@@ -1,6 +1,6 @@
 //! Chains: what each ends with, by following every loan from every ending found.
 
-use super::journal::{Journal, Loan};
+use super::journal::{Grant, Journal, Loan};
 
 /// A person and the allowance that some chain to that person ends with.
 #[derive(Clone, Copy, Debug, PartialEq, Eq, PartialOrd, Ord)]
@@ -41,7 +41,8 @@ impl Journal {
 
     /// The chains of one person: a0 = e0.
     pub fn starts(&self, item: u32, right: u32) -> Vec<Ending> {
-        let on_key = self.grants.iter().filter(|g| g.item == item && g.right == right);
+        let at = |person, depth| Grant { item, right, person, depth };
+        let on_key = self.grants.range(at(0, 0)..=at(63, 7));
         on_key.map(|g| Ending { person: g.person, allowance: g.depth }).collect()
     }
 

@@ -14,6 +14,10 @@ pub const fn allow(by: u32, to: u32, on: u32, right: u32, depth: u32) -> Command
     Command::Allow { by, to, on, right, depth }
 }
 
+pub const fn allow_set(by: u32, set: u64, on: u32, right: u32, depth: u32) -> Command {
+    Command::AllowSet { by, set, on, right, depth }
+}
+
 pub const fn withdraw(by: u32, to: u32, on: u32, right: u32) -> Command {
     Command::Withdraw { by, to, on, right }
 }

@@ -33,6 +33,7 @@ pub enum Command {
     Create { by: u32, on: u32 },
     Delete { by: u32, on: u32 },
     Allow { by: u32, to: u32, on: u32, right: u32, depth: u32 },
+    AllowSet { by: u32, set: u64, on: u32, right: u32, depth: u32 },
     Withdraw { by: u32, to: u32, on: u32, right: u32 },
     Lend { by: u32, to: u32, on: u32, right: u32, depth: u32, last: u32 },
     Recall { by: u32, to: u32, on: u32, right: u32, depth: u32, last: u32 },
@@ -59,6 +60,10 @@ impl Command {
             Command::Allow { by, to, on, right, depth } => {
                 Named { items: vec![by, to, on], right, depth, shift: 0 }
             }
+            // "bit i for item i": no member of a set is above 63.
+            Command::AllowSet { by, on, right, depth, .. } => {
+                Named { items: vec![by, on], right, depth, shift: 0 }
+            }
             Command::Lend { by, to, on, right, depth, last }
             | Command::Recall { by, to, on, right, depth, last } => {
                 Named { items: vec![by, to, on], right, depth, shift: last }
@@ -76,6 +81,19 @@ impl Command {
 
     fn by(self) -> u32 {
         self.named().items[0]
+    }
+
+    /// The single allows of an allowset, in an order that changes with the set; none of any other
+    /// command.
+    pub fn single_allows(self) -> Vec<Command> {
+        let Command::AllowSet { by, set, on, right, depth } = self else {
+            return Vec::new();
+        };
+        let mut members: Vec<u32> = (0..64).filter(|&item| set >> item & 1 == 1).collect();
+        members.sort_by_key(|&item| {
+            (set ^ u64::from(item)).wrapping_mul(0x9e37_79b9_7f4a_7c15).rotate_left(23)
+        });
+        members.into_iter().map(|to| Command::Allow { by, to, on, right, depth }).collect()
     }
 
     /// The loan that a lend or a recall is about.
@@ -123,10 +141,9 @@ impl Journal {
         if command.out_of_range() {
             return 3;
         }
-        if !self.lives(command.by()) {
-            return 4;
-        }
         match command {
+            Command::AllowSet { .. } => self.answer_all(&command.single_allows()),
+            _ if !self.lives(command.by()) => 4,
             Command::Create { on, .. } => self.answer_create(on),
             Command::Delete { by, on } => self.answer_delete(by, on),
             Command::Allow { by, to, on, .. } | Command::Withdraw { by, to, on, .. } => {
@@ -176,6 +193,15 @@ impl Journal {
         number
     }
 
+    /// "the lowest refusal's number, if any of them is refused"; "14 when the set is empty".
+    fn answer_all(&self, allows: &[Command]) -> u32 {
+        if allows.is_empty() {
+            return 14;
+        }
+        let numbers = allows.iter().map(|&allow| self.answer(allow));
+        numbers.filter(|&number| number != 0).min().unwrap_or(0)
+    }
+
     fn answer_lend(&self, loan: Loan) -> u32 {
         let number = self.answer_named(loan.borrower, loan.item);
         if number != 0 {
@@ -211,6 +237,12 @@ impl Journal {
             Command::Delete { on, .. } => self.delete(on),
             Command::Allow { to, on, right, depth, .. } => {
                 self.grants.insert(Grant { item: on, right, person: to, depth });
+            }
+            // "It does what the single allows do in any order".
+            Command::AllowSet { .. } => {
+                for allow in command.single_allows() {
+                    assert_eq!(self.give(allow), 0, "{allow:?} of {command:?}");
+                }
             }
             Command::Withdraw { to, on, right, .. } => {
                 self.grants.retain(|g| (g.person, g.item, g.right) != (to, on, right));

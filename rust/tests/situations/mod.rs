@@ -1,5 +1,7 @@
-//! How often a run came upon what shifts are about: loans for one shift, past loans, and a shift
-//! that goes back.
+//! How often a run came upon what shifts are about, loans for one shift, past loans and a shift that
+//! goes back; and upon what allowsets are about.
+
+mod allow_sets;
 
 use crate::model::{Command, Journal, Loan};
 
@@ -10,6 +12,8 @@ struct Moment<'a> {
     number: u32,
     /// The last loan with a last shift that stood ended by a recall.
     freed: bool,
+    /// It is the last accepted allowset again.
+    again: bool,
 }
 
 impl Moment<'_> {
@@ -116,15 +120,23 @@ const ANSWERS: [&str; 3] =
 pub struct Situations {
     commands: [u64; SITUATIONS.len()],
     answers: [u64; ANSWERS.len()],
+    allow_sets: [u64; allow_sets::SITUATIONS.len()],
     freed: bool,
+    /// The last accepted allowset.
+    allow_set: Option<Command>,
 }
 
 impl Situations {
     /// Counts the command, which the journal has yet to be given.
     pub fn command(&mut self, journal: &Journal, command: Command, number: u32) {
-        let moment = Moment { journal, command, number, freed: self.freed };
-        for (count, (_, is_one)) in self.commands.iter_mut().zip(SITUATIONS) {
+        let again = self.allow_set == Some(command);
+        let moment = Moment { journal, command, number, freed: self.freed, again };
+        let counts = self.commands.iter_mut().chain(&mut self.allow_sets);
+        for (count, (_, is_one)) in counts.zip(SITUATIONS.iter().chain(&allow_sets::SITUATIONS)) {
             *count += u64::from(is_one(&moment));
+        }
+        if matches!(command, Command::AllowSet { .. }) && number == 0 {
+            self.allow_set = Some(command);
         }
         let lent = moment.lend(0).is_some_and(|loan| loan.last != 0);
         let recalled = moment.recall().is_some_and(|loan| journal.dated().eq([&loan]));
@@ -146,16 +158,21 @@ impl Situations {
     }
 
     pub fn add(&mut self, other: &Self) {
-        let into = self.commands.iter_mut().chain(&mut self.answers);
-        for (count, more) in into.zip(other.commands.iter().chain(&other.answers)) {
+        let into = self.commands.iter_mut().chain(&mut self.answers).chain(&mut self.allow_sets);
+        for (count, more) in into.zip(other.counts()) {
             *count += more;
         }
     }
 
+    fn counts(&self) -> impl Iterator<Item = &u64> {
+        self.commands.iter().chain(&self.answers).chain(&self.allow_sets)
+    }
+
     /// Each situation by its name, and how often it came up.
     fn named(&self) -> impl Iterator<Item = (&'static str, u64)> + '_ {
-        let names = SITUATIONS.iter().map(|(name, _)| *name).chain(ANSWERS);
-        names.zip(self.commands.iter().chain(&self.answers).copied())
+        let name = |situation: &Situation| situation.0;
+        let names = SITUATIONS.iter().map(name).chain(ANSWERS);
+        names.chain(allow_sets::SITUATIONS.iter().map(name)).zip(self.counts().copied())
     }
 
     pub fn print(&self) {
