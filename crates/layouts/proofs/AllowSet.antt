@@ -2,30 +2,28 @@
 -- is the lowest of the single allows' behind one guard (`answer-lowest`). Where it is accepted, each single allow leaves an image in
 -- order with the same live set (`order-allowed`), so the next is accepted too; and one after another they put in the bits of the same
 -- places, in whatever order (`each-allowed`).
-use mathlib.Core.Path.{_≡_, refl, sym, ap, _∙_, subst}
+use mathlib.Core.Path.{_≡_, refl, sym, ap, _∙_}
 use mathlib.Core.Bool.{Bool, true, false, not, _&&_, _||_, false≢true, or-comm}
 use mathlib.Core.List.{List, [], _∷_, map, map-map}
 use Prim.Native.Nat.{ℕ, _<_}
-use native.Mathlib.Omega.{arith}
-use borrow.Author.Tests.{eqb-true, eq-eqb, ne-eqb, le-leb, ltb-true}
+use borrow.Author.Tests.{eqb-true, eq-eqb, ne-eqb}
 use lib.ListN.{length}
-use lib.Dec.{eqb, leb, ltb}
+use lib.Dec.{eqb, leb}
 use Rattle.bits.specs.Sets.{any, all}
 use Rattle.bits.specs.Cells.{at}
 use Rattle.model.specs.declared.Command.the-variants.{Allow, AllowSet}
 use Rattle.model.specs.Commands.{items, rightDepth, argumentsOf, membersOf, isEmpty}
-use Rattle.model.specs.Journal.{Grant, grant, singles, lowest}
-use Rattle.model.specs.AllowSet.{Orders, Accepts, none, one, finally, AllowsSet}
+use Rattle.model.specs.Journal.{Grant, grant, lowest}
+use Rattle.model.specs.AllowSet.{Orders, AllowsSet}
 use Rattle.model.specs.Invariant.{ranged}
 use Rattle.layouts.specs.Machine.{Machine, answerOf, stepOf}
 use Rattle.layouts.specs.Layouts.{Layout, lists, rows, liveIn, grantBit, build, held, inOrder, allowed, allowedSet, depths, flatUnit}
 use Rattle.layouts.specs.Laws.{Laws, Whole}
-use Rattle.bits.proofs.Sets.{by-cases, fst, snd, both, or-left, or-right, all-mono, all-and, any-mono, either, any-map, all-from, all-at, any-order, eqb-self}
+use Rattle.bits.proofs.Sets.{by-cases, fst, snd, both, or-left, or-right, any-mono, either, any-map, any-order, eqb-self}
 use Rattle.bits.proofs.Indexed.{below-intro, below-elim}
 use Rattle.bits.proofs.Cells.{length-image}
-use Rattle.bits.proofs.Members.{members-below}
-use Rattle.model.proofs.AllowSet.{Team, answer-lowest, none-named}
-use Rattle.model.proofs.Invariant.{passed, accepted, named-live}
+use Rattle.model.proofs.OneByOne.{Singles, one-by-one}
+use Rattle.model.proofs.AllowSet.{Team, Ready, answer-lowest, asked, single-done, none-named, everyone}
 use Rattle.layouts.proofs.Layouts.{live-build, bit-at-build, build-cong, small}
 use Rattle.layouts.proofs.Holding.{Holds}
 use Rattle.layouts.proofs.Subjects.{lists-whole, rows-whole}
@@ -138,133 +136,72 @@ module _ (L : Layout) (H : Whole L) where
   -- ---- a unit that holds the image
   module _ {S : Type 0} (M : Machine S) (image : S → List ℕ) (with : S → List ℕ → S) (U : Holds L M image with) (by on right depth : ℕ)
     where
-      -- what every single allow needs, but for its person
-      record Ready (s : S) : Type 0 where
-        pub sized : M .sized s ≡ true
-        pub ordered : M .ordered s ≡ true
-        pub within : items by on && rightDepth right depth ≡ true
-        pub by-lives : liveIn L (image s) by ≡ true
-        pub on-lives : liveIn L (image s) on ≡ true
-        pub edits : held L (image s) by on 0 ≡ true
+      team : (s : S) (set : ℕ)
+          → Team (M .facts s (argumentsOf (AllowSet by set on right depth))) (λ i. M .facts s (argumentsOf (Allow by i on right depth)))
+          (liveIn L (image s)) set
+      team s set = record {
+        by = λ i. U .by s _ ∙ sym (U .by s _);
+        on = λ i. U .on s _ ∙ sym (U .on s _);
+        edits = λ i. U .edits s _ ∙ sym (U .edits s _);
+        to = λ i. U .to s _;
+        alone = λ i. U .members s _ ∙ none-named (liveIn L (image s));
+        about = U .to s _ ∙ sym (U .on s _);
+        members = U .members s _;
+      }
+
+      -- the state after a single allow
+      abbrev with-one : S → ℕ → S
+      with-one s i = with s (allowed L (image s) (grant i on right depth))
 
       -- a person who may be allowed
       abbrev alive : S → ℕ → Bool
       alive s i = leb i 63 && liveIn L (image s) i
 
-      single-done : (s : S) (i : ℕ) → Ready s → alive s i ≡ true → answerOf M s (Allow by i on right depth) ≡ 0
-      single-done s i r h =
-          let a = argumentsOf (Allow by i on right depth) in
-          let x : leb by 63 ≡ true = let k = r .within in search (fst, snd) in
-          let y : leb on 63 ≡ true = let k = r .within in search (fst, snd) in
-          let c : leb right 7 ≡ true = let k = r .within in search (fst, snd) in
-          let d : leb depth 7 ≡ true = let k = r .within in search (fst, snd) in
-          rw (r .sized, r .ordered, x, y, c, d, fst (leb i 63) (liveIn L (image s) i) h, U .by s a ∙ r .by-lives, U .on s a ∙ r .on-lives, U .to s a ∙ snd (leb i 63) (liveIn L (image s) i) h, U .members s a ∙ none-named (liveIn L (image s)), U .edits s a ∙ r .edits)
-
-      -- the state after it
-      single-leaves : (s : S) (i : ℕ) → Ready s → alive s i ≡ true
-          → stepOf M s (Allow by i on right depth) ≡ with s (allowed L (image s) (grant i on right depth))
-      single-leaves s i r h = rw (single-done s i r h) (U .allow s by i on right depth)
-
-      grant-within : (i : ℕ) (s : S) → Ready s → alive s i ≡ true → ranged (grant i on right depth) ≡ true
-      grant-within i s r h = let k = r .within in let l = fst (leb i 63) (liveIn L (image s) i) h in search (fst, snd, both)
+      -- what every single allow needs, but for its person
+      abbrev Able : ℕ → S → Type 0
+      Able set s =
+          Ready (M .sized s) (M .ordered s) (M .facts s (argumentsOf (AllowSet by set on right depth)))
+          (argumentsOf (AllowSet by set on right depth))
 
       -- an allow takes nothing away that another needs
-      still : (s : S) (i : ℕ) → Ready s → alive s i ≡ true → Ready (with s (allowed L (image s) (grant i on right depth)))
-      still s i r h =
-          let g = grant i on right depth in
-          let w = grant-within i s r h in
-          let x : leb by 63 ≡ true = let k = r .within in search (fst, snd) in
-          let y : leb on 63 ≡ true = let k = r .within in search (fst, snd) in
-          let e = U .image-with s (allowed L (image s) g) in
-          let l = live-allowed (image s) g w in
-          record {
-            sized = U .sized s _ (r .sized) (length-allowed (image s) g w);
-            ordered =
-                U .ordered s _ (r .ordered)
-                (order-allowed (image s) g w (U .in-order s (r .ordered)) (snd (leb i 63) (liveIn L (image s) i) h) (r .on-lives)) l;
-            within = r .within;
-            by-lives = rw e (l by x ∙ r .by-lives);
-            on-lives = rw e (l on y ∙ r .on-lives);
-            edits = rw e (held-allowed (image s) g by on 0 (both (both x y) refl) (r .edits));
-          }
-
-      others : (s : S) (i : ℕ) → Ready s → alive s i ≡ true → (is : List ℕ) → all (alive s) is ≡ true
-          → all (alive (with s (allowed L (image s) (grant i on right depth)))) is ≡ true
-      others s i r h is k =
-          let g = grant i on right depth in
-          all-mono (alive s) _ is k
-          (λ n q. both (fst (leb n 63) (liveIn L (image s) n) q)
-          (rw (U .image-with s (allowed L (image s) g))
-          (live-allowed (image s) g (grant-within i s r h) n (fst (leb n 63) (liveIn L (image s) n) q)
-          ∙ snd (leb n 63) (liveIn L (image s) n) q)))
-
-      accepts : (persons : List ℕ) (s : S) → Ready s → all (alive s) persons ≡ true
-          → Accepts (answerOf M) (stepOf M) s (singles persons by on right depth)
-      unfolding all
-      accepts [] s r h = none
-      accepts (i ∷ is) s r h =
-          let k = fst (alive s i) (all (alive s) is) h in
-          one (single-done s i r k)
-          (subst (λ t. Accepts (answerOf M) (stepOf M) t (singles is by on right depth)) (sym (single-leaves s i r k))
-          (accepts is _ (still s i r k) (others s i r k is (snd (alive s i) (all (alive s) is) h))))
-
-      leaves : (persons : List ℕ) (s : S) → Ready s → all (alive s) persons ≡ true
-          → finally (answerOf M) (stepOf M) s (singles persons by on right depth)
-          ≡ with s (allowedEach (image s) (map (λ i. grant i on right depth) persons))
-      unfolding all allowedEach
-      leaves [] s r h = sym (U .with-image s)
-      leaves (i ∷ is) s r h =
-          let k = fst (alive s i) (all (alive s) is) h in
-          let x = allowed L (image s) (grant i on right depth) in
-          ap (λ t. finally (answerOf M) (stepOf M) t (singles is by on right depth)) (single-leaves s i r k)
-          ∙ leaves is _ (still s i r k) (others s i r k is (snd (alive s i) (all (alive s) is) h))
-          ∙ rw (U .image-with s x) (U .with-with s x _)
+      unit-singles : (set : ℕ)
+          → Singles (answerOf M) (stepOf M) (λ i. Allow by i on right depth) (Able set) alive with-one
+          (λ s is. with s (allowedEach (image s) (map (λ i. grant i on right depth) is)))
+      unfolding allowedEach
+      unit-singles set = record {
+        done = λ s i r h. single-done (M .sized s) (M .ordered s) _ _ (liveIn L (image s)) by set on right depth (team s set) r i h;
+        leaves = λ s i e. rw e (U .allow s by i on right depth);
+        still =
+            λ s i r h. let g = grant i on right depth in
+            let w = grant-within set s i r h in
+            let a = argumentsOf (AllowSet by set on right depth) in
+            let x : leb by 63 ≡ true = let k = r .within in search (fst, snd) in
+            let y : leb on 63 ≡ true = let k = r .within in search (fst, snd) in
+            let e = U .image-with s (allowed L (image s) g) in
+            let l = live-allowed (image s) g w in
+            let p = snd (leb i 63) (liveIn L (image s) i) h in
+            let o = sym (U .on s a) ∙ r .on-lives in
+            record {
+              size = U .sized s _ (r .size) (length-allowed (image s) g w);
+              order = U .ordered s _ (r .order) (order-allowed (image s) g w (U .in-order s (r .order)) p o) l;
+              within = r .within;
+              by-lives = U .by _ a ∙ rw e (l by x ∙ sym (U .by s a) ∙ r .by-lives);
+              on-lives = U .on _ a ∙ rw e (l on y ∙ o);
+              edits = U .edits _ a ∙ rw e (held-allowed (image s) g by on 0 (both (both x y) refl) (sym (U .edits s a) ∙ r .edits));
+            };
+        others =
+            λ s i r h n q. both (fst (leb n 63) (liveIn L (image s) n) q)
+            (rw (U .image-with s (allowed L (image s) (grant i on right depth)))
+            (live-allowed (image s) (grant i on right depth) (grant-within set s i r h) n (fst (leb n 63) (liveIn L (image s) n) q)
+            ∙ snd (leb n 63) (liveIn L (image s) n) q));
+        nobody = λ s. U .with-image s;
+        more = λ s i is. sym (rw (U .image-with s (allowed L (image s) (grant i on right depth))) (U .with-with s _ _));
+      }
+        where
+          grant-within : (set : ℕ) (s : S) (i : ℕ) → Able set s → alive s i ≡ true → ranged (grant i on right depth) ≡ true
+          grant-within set s i r h = let k = r .within in let l = fst (leb i 63) (liveIn L (image s) i) h in search (fst, snd, both)
 
       module _ (s : S) (set : ℕ) where
-        team : Team (M .facts s (argumentsOf (AllowSet by set on right depth))) (λ i. M .facts s (argumentsOf (Allow by i on right depth)))
-            (liveIn L (image s)) set
-        team = record {
-          by = λ i. U .by s _ ∙ sym (U .by s _);
-          on = λ i. U .on s _ ∙ sym (U .on s _);
-          edits = λ i. U .edits s _ ∙ sym (U .edits s _);
-          to = λ i. U .to s _;
-          alone = λ i. U .members s _ ∙ none-named (liveIn L (image s));
-          about = U .to s _ ∙ sym (U .on s _);
-          members = U .members s _;
-        }
-
-        -- what an accepted allowset has been asked
-        ready : answerOf M s (AllowSet by set on right depth) ≡ 0
-            → Ready s × (all (alive s) (membersOf set) ≡ true) × (isEmpty set ≡ false)
-        ready e =
-            let a = argumentsOf (AllowSet by set on right depth) in
-            let p1 = passed 0 (M .sized s) _ e in
-            let p2 = passed 1 (M .ordered s) _ (p1 .1) in
-            let k = accepted (M .facts s a) a (p2 .1) in
-            let l = named-live (M .facts s a .on) (M .facts s a .to) (M .facts s a .members) (k .named) in
-            let w : items by on && rightDepth right depth ≡ true = let h = k .fits in search (fst, snd, both) in (
-              record {
-                sized = p1 .0;
-                ordered = p2 .0;
-                within = w;
-                by-lives = sym (U .by s a) ∙ k .by;
-                on-lives = sym (U .on s a) ∙ l .0;
-                edits = sym (U .edits s a) ∙ not-not (M .facts s a .edits) (k .edits);
-              },
-              all-and (λ i. leb i 63) (liveIn L (image s)) (membersOf set)
-                  ∙ both (all-mono (λ i. ltb i 64) (λ i. leb i 63) (membersOf set) (members-below 64 set)
-                  (λ i h. le-leb i 63 (omega (arith, ltb-true i 64 h)))) (sym (U .members s a) ∙ l .2),
-              k .empty,
-            )
-          where
-            not-not : (b : Bool) → not b ≡ false → b ≡ true
-            not-not true e = refl
-            not-not false e = absurd (false≢true (sym e))
-
-        -- each person of an order is a member
-        everyone : (persons : List ℕ) → Orders set persons → all (alive s) (membersOf set) ≡ true → all (alive s) persons ≡ true
-        everyone persons o h = all-from (alive s) persons (λ i e. all-at (alive s) (membersOf set) h i (sym (o i) ∙ e))
-
         -- the places of an order are those of the set
         same-places : (persons : List ℕ) → Orders set persons → isEmpty set ≡ false
             → allowedEach (image s) (map (λ i. grant i on right depth) persons) ≡ allowedSet L (image s) set on right depth
@@ -280,15 +217,20 @@ module _ (L : Layout) (H : Whole L) where
         unit-allowset = record {
           number =
               λ h. answer-lowest (M .sized s) (M .ordered s) (M .facts s (argumentsOf (AllowSet by set on right depth)))
-              (λ i. M .facts s (argumentsOf (Allow by i on right depth))) (liveIn L (image s)) by set on right depth team h
+              (λ i. M .facts s (argumentsOf (Allow by i on right depth))) (liveIn L (image s)) by set on right depth (team s set) h
               ∙ ap lowest (sym (map-map (answerOf M s) (λ i. Allow by i on right depth) (membersOf set)));
           nothing = λ n. rw (ne-eqb _ 0 n);
-          accepted = λ e persons o. let r = ready e in accepts persons s (r .0) (everyone persons o (r .1));
+          accepted = λ e persons o. let r = ready e in
+              one-by-one (unit-singles set) persons s (r .0) (everyone (alive s) set (r .1) persons o) .0;
           same =
               λ e persons o. let r = ready e in
-              leaves persons s (r .0) (everyone persons o (r .1)) ∙ ap (with s) (same-places persons o (r .2))
+              one-by-one (unit-singles set) persons s (r .0) (everyone (alive s) set (r .1) persons o) .1 ∙ ap (with s) (same-places persons o (r .2))
               ∙ sym (rw e (U .allow-set s by set on right depth));
         }
+          where
+            ready : answerOf M s (AllowSet by set on right depth) ≡ 0
+                → Able set s × (all (alive s) (membersOf set) ≡ true) × (isEmpty set ≡ false)
+            ready e = asked (M .sized s) (M .ordered s) _ _ (liveIn L (image s)) by set on right depth (team s set) e
 
 -- lists and rows are such units
 pub flat-holds : (L : Layout) → Holds L (flatUnit L) (λ s. s) (λ s x. x)

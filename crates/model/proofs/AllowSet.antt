@@ -1,9 +1,9 @@
 -- What allowset promises of the journal. The rows of the table give allowset the lowest number that a single allow of a member gets,
 -- since of these numbers only 5 asks who the person is (`answer-lowest`). Where none is refused, every single allow is accepted,
--- whichever were done before it: an allow takes nothing away that another needs (`accepts`). What is left is a set of grants, in which
--- the order of the allows does not show (`any-granted`).
-use mathlib.Core.Path.{_≡_, refl, sym, ap, _∙_, subst}
-use mathlib.Core.Bool.{Bool, true, false, not, _&&_, _||_, cond, false≢true, and-true}
+-- whichever were done before it: an allow takes nothing away that another needs (`one-by-one`, over any state). What is left is a set of
+-- grants, in which the order of the allows does not show (`any-granted`).
+use mathlib.Core.Path.{_≡_, refl, sym, ap, _∙_}
+use mathlib.Core.Bool.{Bool, true, false, not, _&&_, _||_, cond, false≢true, and-true, Bool·not-not}
 use mathlib.Core.List.{List, [], _∷_, map, map-map}
 use Prim.Native.Nat.{ℕ, min}
 use native.Mathlib.Omega.{arith}
@@ -14,13 +14,15 @@ use Rattle.bits.specs.Sets.{any, all}
 use Rattle.model.specs.declared.Command.{Command}
 use Rattle.model.specs.declared.Command.the-variants.{Create, Delete, Allow, Withdraw, Lend, Recall, Shift, AllowSet}
 use Rattle.model.specs.declared.Facts.{Facts}
-use Rattle.model.specs.Commands.{items, rightDepth, argumentsOf, fits, membersOf, isEmpty}
+use Rattle.model.specs.declared.Arguments.{Arguments}
+use Rattle.model.specs.Commands.{rightDepth, argumentsOf, fits, membersOf, isEmpty}
 use Rattle.model.specs.Answers.{answer, _when_else_}
-use Rattle.model.specs.Journal.{Grant, Journal, grant, sameGrant, isTo, lives, hasGrant, facts, tabled, answered, singles, lowest, granted, grantedAll, apply, step}
-use Rattle.model.specs.AllowSet.{Orders, SameSets, Accepts, none, one, finally, AllowsSet}
+use Rattle.model.specs.Journal.{Grant, Journal, grant, sameGrant, isTo, lives, hasGrant, facts, tabled, answered, lowest, granted, grantedAll, step}
+use Rattle.model.specs.AllowSet.{Orders, SameSets, AllowsSet}
 use Rattle.bits.proofs.Sets.{by-cases, fst, snd, both, or-right, all-mono, all-and, all-add, any-map, any-add, all-from, all-at, any-order}
 use Rattle.bits.proofs.Members.{members-below, members-zero}
-use Rattle.model.proofs.Invariant.{same-grant, accepted, named-live}
+use Rattle.model.proofs.Invariant.{same-grant, passed, accepted, named-live}
+use Rattle.model.proofs.OneByOne.{Singles, one-by-one}
 
 -- ---- the number
 -- what the guard and the rows of an allow give, by the facts that they ask
@@ -80,23 +82,36 @@ pub record Team (f : Facts) (F : ℕ → Facts) (alive : ℕ → Bool) (set : �
   pub about : f .to ≡ f .on
   pub members : f .members ≡ all alive (membersOf set)
 
--- a member is within the limits, so the limits of its allow are those of the set's
-fits-single : (by set on right depth i : ℕ) → ltb i 64 ≡ true
+-- a member is within the limits
+members-within : (set : ℕ) → all (λ i. leb i 63) (membersOf set) ≡ true
+members-within set =
+    all-mono (λ i. ltb i 64) (λ i. leb i 63) (membersOf set) (members-below 64 set) (λ i h. le-leb i 63 (omega (arith, ltb-true i 64 h)))
+
+-- so the limits of its allow are those of the set's
+fits-single : (by set on right depth i : ℕ) → leb i 63 ≡ true
     → fits (argumentsOf (Allow by i on right depth)) ≡ fits (argumentsOf (AllowSet by set on right depth))
-fits-single by set on right depth i h =
-    rw (le-leb i 63 (omega (arith, ltb-true i 64 h))) (go (leb by 63) (leb on 63) (rightDepth right depth))
+fits-single by set on right depth i h = rw h (go (leb by 63) (leb on 63) (rightDepth right depth))
   where
     go : (x y r : Bool) → (x && true) && (true && y) && r && true ≡ (x && y) && (y && y) && r && true
     go true true r = refl
     go true false r = refl
     go false y r = refl
 
+-- what every single allow of an allowset needs, but for its person: a state that may be read, and these of the allowset's facts
+pub record Ready (sized ordered : Bool) (f : Facts) (a : Arguments) : Type 0 where
+  pub size : sized ≡ true
+  pub order : ordered ≡ true
+  pub within : fits a ≡ true
+  pub by-lives : f .by ≡ true
+  pub on-lives : f .on ≡ true
+  pub edits : f .edits ≡ true
+
 -- the table's number of an allowset, behind a guard that lets everything or nothing through
 module _ (z d : Bool) (f : Facts) (F : ℕ → Facts) (alive : ℕ → Bool) (by set on right depth : ℕ) (t : Team f F alive set) where
   behind : ℕ → ℕ
   behind n = 1 when not z else 2 when not d else n
 
-  single-row : (i : ℕ) → ltb i 64 ≡ true
+  single-row : (i : ℕ) → leb i 63 ≡ true
       → behind (answer (F i) (argumentsOf (Allow by i on right depth)))
       ≡ row z d (fits (argumentsOf (AllowSet by set on right depth))) (f .by) (f .on) (alive i) (f .edits)
   unfolding behind
@@ -109,7 +124,7 @@ module _ (z d : Bool) (f : Facts) (F : ℕ → Facts) (alive : ℕ → Bool) (by
   unfolding behind
   answer-lowest h =
       rw (h, t .about, t .members, twice (f .on) (all alive (membersOf set)))
-      (sym (some (membersOf set) h) ∙ sym (lowest-cong _ _ (λ i. ltb i 64) (membersOf set) (members-below 64 set) single-row))
+      (sym (some (membersOf set) h) ∙ sym (lowest-cong _ _ (λ i. leb i 63) (membersOf set) (members-within set) single-row))
     where
       twice : (x y : Bool) → x && x && y ≡ x && y
       twice true y = refl
@@ -120,6 +135,32 @@ module _ (z d : Bool) (f : Facts) (F : ℕ → Facts) (alive : ℕ → Bool) (by
           ≡ row z d (fits (argumentsOf (AllowSet by set on right depth))) (f .by) (f .on) (all alive is) (f .edits)
       some [] e = absurd (false≢true (sym e))
       some (i ∷ is) e = lowest-rows z d (fits (argumentsOf (AllowSet by set on right depth))) (f .by) (f .on) (f .edits) alive i is
+
+  -- a person who may be allowed
+  abbrev may : ℕ → Bool
+  may i = leb i 63 && alive i
+
+  -- what an accepted allowset has been asked
+  pub asked : (1 when not z else 2 when not d else answer f (argumentsOf (AllowSet by set on right depth))) ≡ 0
+      → Ready z d f (argumentsOf (AllowSet by set on right depth)) × (all may (membersOf set) ≡ true) × (isEmpty set ≡ false)
+  asked e =
+      let p1 = passed 0 z _ e in
+      let p2 = passed 1 d _ (p1 .1) in
+      let k = accepted f (argumentsOf (AllowSet by set on right depth)) (p2 .1) in
+      let l = named-live (f .on) (f .to) (f .members) (k .named) in
+      let n = sym (Bool·not-not (f .edits)) ∙ ap not (k .edits) in (
+        record { size = p1 .0; order = p2 .0; within = k .fits; by-lives = k .by; on-lives = l .0; edits = n },
+        all-and (λ i. leb i 63) alive (membersOf set) ∙ both (members-within set) (sym (t .members) ∙ l .2),
+        k .empty,
+      )
+
+  -- and so a single allow is done
+  pub single-done : Ready z d f (argumentsOf (AllowSet by set on right depth)) → (i : ℕ) → may i ≡ true
+      → (1 when not z else 2 when not d else answer (F i) (argumentsOf (Allow by i on right depth))) ≡ 0
+  unfolding behind
+  single-done r i h =
+      single-row i (fst (leb i 63) (alive i) h)
+      ∙ rw (r .size, r .order, r .within, r .by-lives, r .on-lives, snd (leb i 63) (alive i) h, r .edits)
 
 -- a command without a set names no member
 pub none-named : (alive : ℕ → Bool) → all alive (membersOf 0) ≡ true
@@ -193,75 +234,49 @@ all-granted q [] j h k = k
 all-granted q (g ∷ gs) j h k =
     all-granted q gs (granted j g) (snd (q g) (all q gs) h) (all-add q sameGrant g (j .grants) (fst (q g) (all q gs) h) k)
 
--- ---- in any order
--- what every single allow needs, but for its person
-pub record Ready (j : Journal) (by on right depth : ℕ) : Type 0 where
-  pub within : items by on && rightDepth right depth ≡ true
-  pub by-lives : lives j by ≡ true
-  pub on-lives : lives j on ≡ true
-  pub edits : hasGrant j by on 0 ≡ true
+-- ---- in any order: each person of an order is a member
+pub everyone : (q : ℕ → Bool) (set : ℕ) → all q (membersOf set) ≡ true → (persons : List ℕ) → Orders set persons → all q persons ≡ true
+everyone q set h persons o = all-from q persons (λ i e. all-at q (membersOf set) h i (sym (o i) ∙ e))
 
+-- ---- the journal
 -- a person who may be allowed
 abbrev pub alive : Journal → ℕ → Bool
 alive j i = leb i 63 && lives j i
 
 module _ (by on right depth : ℕ) where
-  single-done : (j : Journal) (i : ℕ) → Ready j by on right depth → alive j i ≡ true → answered j (Allow by i on right depth) ≡ 0
-  single-done j i r h =
-      let a : leb by 63 ≡ true = let k = r .within in search (fst, snd) in
-      let b : leb on 63 ≡ true = let k = r .within in search (fst, snd) in
-      let c : leb right 7 ≡ true = let k = r .within in search (fst, snd) in
-      let d : leb depth 7 ≡ true = let k = r .within in search (fst, snd) in
-      rw (a, b, c, d, fst (leb i 63) (lives j i) h, r .by-lives, r .on-lives, snd (leb i 63) (lives j i) h, r .edits, none-named (lives j))
-
-  stepped : (j : Journal) (c : Command) → answered j c ≡ 0 → step j c ≡ apply j c
-  stepped j c e = rw e
-
-  -- an allow takes nothing away that another needs
-  still : (j : Journal) (g : Grant) → Ready j by on right depth → Ready (granted j g) by on right depth
-  still j g r = record {
-    within = r .within;
-    by-lives = r .by-lives;
-    on-lives = r .on-lives;
-    edits = any-add (isTo by on 0) sameGrant same-grant g (j .grants) ∙ or-right (isTo by on 0 g) (hasGrant j by on 0) (r .edits);
-  }
-
-  accepts : (persons : List ℕ) (j : Journal) → Ready j by on right depth → all (alive j) persons ≡ true
-      → Accepts answered step j (singles persons by on right depth)
-  unfolding all
-  accepts [] j r h = none
-  accepts (i ∷ is) j r h =
-      let e = single-done j i r (fst (alive j i) (all (alive j) is) h) in
-      one e
-      (subst (λ k. Accepts answered step k (singles is by on right depth)) (sym (stepped j (Allow by i on right depth) e))
-      (accepts is (granted j (grant i on right depth)) (still j _ r) (snd (alive j i) (all (alive j) is) h)))
-
-  leaves : (persons : List ℕ) (j : Journal) → Ready j by on right depth → all (alive j) persons ≡ true
-      → finally answered step j (singles persons by on right depth) ≡ grantedAll j (map (λ i. grant i on right depth) persons)
-  unfolding all
-  leaves [] j r h = refl
-  leaves (i ∷ is) j r h =
-      let e = single-done j i r (fst (alive j i) (all (alive j) is) h) in
-      ap (λ k. finally answered step k (singles is by on right depth)) (stepped j (Allow by i on right depth) e)
-      ∙ leaves is (granted j (grant i on right depth)) (still j _ r) (snd (alive j i) (all (alive j) is) h)
+  -- what every single allow needs, but for its person
+  abbrev pub Able : ℕ → Journal → Type 0
+  Able set j =
+      Ready true true (facts j (argumentsOf (AllowSet by set on right depth))) (argumentsOf (AllowSet by set on right depth))
 
   -- what an accepted allowset has been asked
   pub ready : (j : Journal) (set : ℕ) → answered j (AllowSet by set on right depth) ≡ 0
-      → Ready j by on right depth × (all (alive j) (membersOf set) ≡ true)
+      → Able set j × (all (alive j) (membersOf set) ≡ true) × (isEmpty set ≡ false)
   ready j set e =
-      let a = argumentsOf (AllowSet by set on right depth) in
-      let k = accepted (facts j a) a (sym (answered-table j (AllowSet by set on right depth)) ∙ e) in
-      let l = named-live (lives j on) (lives j on) (all (lives j) (membersOf set)) (k .named) in
-      let w : items by on && rightDepth right depth ≡ true = let h = k .fits in search (fst, snd, both) in (
-        record { within = w; by-lives = k .by; on-lives = l .0; edits = not-not (hasGrant j by on 0) (k .edits) },
-        all-and (λ i. leb i 63) (lives j) (membersOf set)
-            ∙ both (all-mono (λ i. ltb i 64) (λ i. leb i 63) (membersOf set) (members-below 64 set)
-            (λ i h. le-leb i 63 (omega (arith, ltb-true i 64 h)))) (l .2),
-      )
-    where
-      not-not : (b : Bool) → not b ≡ false → b ≡ true
-      not-not true e = refl
-      not-not false e = absurd (false≢true (sym e))
+      asked true true _ _ (lives j) by set on right depth (journal-team j by set on right depth)
+      (sym (answered-table j (AllowSet by set on right depth)) ∙ e)
+
+  journal-singles : (set : ℕ)
+      → Singles answered step (λ i. Allow by i on right depth) (Able set) alive (λ j i. granted j (grant i on right depth))
+      (λ j is. grantedAll j (map (λ i. grant i on right depth) is))
+  journal-singles set = record {
+    done = λ j i r h. single-done true true _ _ (lives j) by set on right depth (journal-team j by set on right depth) r i h;
+    leaves = λ j i e. rw e;
+    still =
+        λ j i r h. record {
+          size = refl;
+          order = refl;
+          within = r .within;
+          by-lives = r .by-lives;
+          on-lives = r .on-lives;
+          edits =
+              any-add (isTo by on 0) sameGrant same-grant (grant i on right depth) (j .grants)
+              ∙ or-right (isTo by on 0 (grant i on right depth)) (hasGrant j by on 0) (r .edits);
+        };
+    others = λ j i r h k q. q;
+    nobody = λ j. refl;
+    more = λ j i is. refl;
+  }
 
   pub journal-allowset : (j : Journal) (set : ℕ) → AllowsSet answered step SameSets j by set on right depth
   journal-allowset j set = record {
@@ -269,16 +284,14 @@ module _ (by on right depth : ℕ) where
         λ h. answered-table j (AllowSet by set on right depth) ∙ tabled-lowest j by set on right depth h
         ∙ ap lowest (sym (map-map (answered j) (λ i. Allow by i on right depth) (membersOf set)));
     nothing = λ n. rw (ne-eqb _ 0 n);
-    accepted = λ e persons o. let r = ready j set e in accepts persons j (r .0) (everyone persons o (r .1));
+    accepted =
+        λ e persons o. let r = ready j set e in
+        one-by-one (journal-singles set) persons j (r .0) (everyone (alive j) set (r .1) persons o) .0;
     same =
         λ e persons o. let r = ready j set e in
-        rw (leaves persons j (r .0) (everyone persons o (r .1)), stepped j (AllowSet by set on right depth) e) (equal persons o);
+        rw (one-by-one (journal-singles set) persons j (r .0) (everyone (alive j) set (r .1) persons o) .1, e) (equal persons o);
   }
     where
-      -- each person of an order is a member
-      everyone : (persons : List ℕ) → Orders set persons → all (alive j) (membersOf set) ≡ true → all (alive j) persons ≡ true
-      everyone persons o h = all-from (alive j) persons (λ i e. all-at (alive j) (membersOf set) h i (sym (o i) ∙ e))
-
       equal : (persons : List ℕ) → Orders set persons
           → SameSets (grantedAll j (map (λ i. grant i on right depth) persons))
           (grantedAll j (map (λ i. grant i on right depth) (membersOf set)))
