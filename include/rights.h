@@ -66,7 +66,7 @@ extern "C" {
 #endif
 
 /* Which engine this header is of: 10000 * major + 100 * minor + patch, and the date of the images' layout as digits. */
-#define RIGHTS_VERSION 10300
+#define RIGHTS_VERSION 10400
 #define RIGHTS_LAYOUT_DATE 20261116
 
 /* Enough stack below the caller's frame for any call. */
@@ -251,9 +251,13 @@ RIGHTS_NODISCARD uint32_t rights_chains_allow(uint8_t *grants, size_t bytes, uin
 RIGHTS_NODISCARD uint32_t rights_chains_allow_set(uint8_t *grants, size_t bytes, uint32_t *loans, size_t words, uint32_t by,
     uint64_t set, uint32_t on, uint32_t right, uint32_t depth) RIGHTS_NONNULL;
 
-/* Ends the grants of to at every depth; loans stay. 0 to 5 or 8. */
+/* Ends the grants of to at every depth, as a drop of each depth would; loans stay. 0 to 5 or 8. */
 RIGHTS_NODISCARD uint32_t rights_chains_withdraw(uint8_t *grants, size_t bytes, uint32_t *loans, size_t words, uint32_t by,
     uint32_t to, uint32_t on, uint32_t right) RIGHTS_NONNULL;
+
+/* Ends just that grant of to, if it stands: the other depths stay, and so do loans. 0 to 5 or 8. */
+RIGHTS_NODISCARD uint32_t rights_chains_drop(uint8_t *grants, size_t bytes, uint32_t *loans, size_t words, uint32_t by, uint32_t to,
+    uint32_t on, uint32_t right, uint32_t depth) RIGHTS_NONNULL;
 
 /*
  * Lends the right on item on from by to to at that depth, also where by holds nothing yet. With a last shift the loan carries up to and

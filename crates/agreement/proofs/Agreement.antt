@@ -1,6 +1,6 @@
 -- Demand 3: fed any list of commands from the start, the three units agree with the journal. Each unit's image is a function of the
--- journal that it is held to, and each command keeps it so; lists and rows are held to a journal of their own commands first, and that
--- one is alike to the whole journal in live items and grants.
+-- journal that it is held to, and each command keeps it so; lists and rows are held to a journal of their own commands, and where no
+-- drop comes that one is alike to the whole journal in live items and grants.
 use mathlib.Core.Path.{_≡_, refl, sym, ap, ap₂, _∙_, subst}
 use mathlib.Core.Bool.{Bool, true, false, not, _&&_, cond, false≢true}
 use mathlib.Core.Logic.{_↔_, by-cases}
@@ -11,23 +11,23 @@ use borrow.Author.Tests.{eqb-true, eq-eqb, ne-eqb, leb-true}
 use lib.ListN.{length, getD}
 use lib.Dec.{eqb, leb}
 use Rattle.model.specs.declared.Command.{Command}
-use Rattle.bits.specs.Sets.{any, all}
+use Rattle.bits.specs.Sets.{any, all, keep}
 use Rattle.model.specs.Commands.{items, rightDepth, argumentsOf, fits, membersOf}
 use Rattle.model.specs.Answers.{flat, asked, Found, nothing}
-use Rattle.model.specs.Journal.{Loan, Journal, grant, sameLoan, isTo, carries, standingLoan, apply, LoanCarries, facts, answered, fresh, step, run}
+use Rattle.model.specs.Journal.{Loan, Journal, grant, sameLoan, isTo, carries, standingLoan, apply, LoanCarries, facts, answered, fresh, step, run, isDrop}
 use Rattle.layouts.specs.Layouts.{Layout, lists, rows, grantBytes, flatUnit}
 use Rattle.layouts.specs.Machine.{stepOf}
 use Rattle.model.specs.Chain.{granted, lent, Meets, JournalChain, JournalAccess}
 use Rattle.delegation.specs.Loans.{lastShift, lender, borrower, loanDepth, loanItem, loanRight, wordOf, shiftIn, used}
 use Rattle.delegation.specs.Images.{Images, WordCarries, ImageChain}
 use Rattle.delegation.specs.ChainUnit.{chainCheckNumber, chainFound, chainBuffer}
-use Rattle.agreement.specs.Agreement.{Units, freshUnits, FlatAgrees, ChainAgrees, Agrees, Answers, called, Follows, Agreement, flatStep, OwnAgreement, fed}
+use Rattle.agreement.specs.Agreement.{Units, freshUnits, FlatAgrees, ChainAgrees, Agrees, Answers, called, Follows, Agreement, flatStep, fed}
 use Rattle.agreement.specs.Examples.{calls}
 use Rattle.bits.proofs.Sets.{fst, snd, both, find, found}
 use Rattle.bits.proofs.Sets as sets
 use Rattle.model.proofs.Chain.{chain-length, chain-map, meets-map, meets-access, access-iff}
 use Rattle.model.specs.Invariant.{ranged, Inv, rangedLoan, Kept, Alike}
-use Rattle.model.proofs.Invariant.{same-loan, loan-self, inv-fresh, loans-ranged}
+use Rattle.model.proofs.Invariant.{neither, same-loan, loan-self, inv-fresh, loans-ranged}
 use Rattle.layouts.specs.Laws.{Laws, imageOf}
 use Rattle.layouts.proofs.Layouts.{lists-laws, rows-laws, bytes-laws, guard-of, check-of, answer-of, fresh-of, cells-of}
 use Rattle.model.proofs.Answers.{table-flat}
@@ -206,11 +206,11 @@ fresh-units : freshUnits ≡ unitsOf fresh fresh
 unfolding freshUnits
 fresh-units = λ i. units (fresh-of lists lists-laws i) (fresh-of rows rows-laws i) (fresh-chain i)
 
--- before the first command and after each, for every list of commands: lists and rows follow a journal of their own
-pub own-agreement : (cs : List Command) → OwnAgreement cs
+-- before the first command and after each, for every list of commands: the chain unit follows the journal, lists and rows one of their own
+own-agreement : (cs : List Command) → Follows flatStep fresh fresh freshUnits cs
 own-agreement cs = subst (λ u. Follows flatStep fresh fresh u cs) (sym fresh-units) (follows cs fresh fresh kept-fresh inv-fresh)
 
--- ---- the journals of lists and rows and of the chain unit are alike
+-- ---- the journals of lists and rows and of the chain unit are alike where no drop comes
 alike-answered : {j k : Journal} → Alike j k → (c : Command) → flat c ≡ true → answered j c ≡ answered k c
 alike-answered {j} {k} a c h =
     let x = argumentsOf c in
@@ -221,13 +221,13 @@ alike-answered {j} {k} a c h =
     (ap (any (isTo (x .by) (x .on) 0)) (a .grants)) x (flat-lends c h))
     ∙ sym (answered-table k c)
 
-alike-step : {j k : Journal} → Alike j k → (c : Command) → Alike (step j c) (flatStep k c)
-alike-step {j} {k} a c =
+alike-step : {j k : Journal} → Alike j k → (c : Command) → isDrop c ≡ false → Alike (step j c) (flatStep k c)
+alike-step {j} {k} a c n =
     go (flat c) (eqb (answered j c) 0) (eqb (answered k c) 0) refl (λ h. ap (λ (n : ℕ). eqb n 0) (alike-answered a c h))
   where
     -- an accepted command, as lists and rows have it or not
     done : (f : Bool) → flat c ≡ f → Alike (apply j c) (cond f (apply k c) k)
-    done f h = subst (λ b. Alike (apply j c) (cond b (apply k c) k)) h (alike-apply a c)
+    done f h = subst (λ b. Alike (apply j c) (cond b (apply k c) k)) h (alike-apply a c n)
 
     go : (f b d : Bool) → flat c ≡ f → (f ≡ true → b ≡ d) → Alike (cond b (apply j c) j) (cond f (cond d (apply k c) k) k)
     go true true true h e = done true h
@@ -254,19 +254,39 @@ alike-answers {c = c} a g = record {
   chain = g .chain;
 }
 
-alike-follows : (cs : List Command) (j k : Journal) (u : Units) → Alike j k → Follows flatStep j k u cs → Follows step j j u cs
-alike-follows [] j k u a f = alike-agrees a f
-alike-follows (c ∷ cs) j k u a f =
-    (alike-agrees a (f .0), alike-answers a (f .1), alike-follows cs (step j c) (flatStep k c) (called u c) (alike-step a c) (f .2))
+-- a list without drop: its first command is none, and none is in the rest
+dropless-parts : (c : Command) (cs : List Command) → any isDrop (c ∷ cs) ≡ false → (isDrop c ≡ false) × (any isDrop cs ≡ false)
+unfolding any
+dropless-parts c cs h = neither (isDrop c) (any isDrop cs) (ap not h)
 
--- demand 3: before the first command and after each, for every list of commands, all three units follow one journal
+alike-follows : (cs : List Command) (j k : Journal) (u : Units) → any isDrop cs ≡ false → Alike j k → Follows flatStep j k u cs
+    → Follows step j j u cs
+alike-follows [] j k u n a f = alike-agrees a f
+alike-follows (c ∷ cs) j k u n a f =
+    let m = dropless-parts c cs n in (
+      alike-agrees a (f .0),
+      alike-answers a (f .1),
+      alike-follows cs (step j c) (flatStep k c) (called u c) (m .1) (alike-step a c (m .0)) (f .2),
+    )
+
+-- demand 3: before the first command and after each, for every list of commands
 pub agreement : (cs : List Command) → Agreement cs
-agreement cs = alike-follows cs fresh fresh freshUnits (record { live = refl; grants = refl }) (own-agreement cs)
+agreement cs = record {
+  every = own-agreement cs;
+  dropless = λ n. alike-follows cs fresh fresh freshUnits n (record { live = refl; grants = refl }) (own-agreement cs);
+}
 
--- the two journals after any list of commands
-pub own-journal : (cs : List Command) (j k : Journal) → Alike j k → Alike (fed step j cs) (fed flatStep k cs)
-own-journal [] j k a = a
-own-journal (c ∷ cs) j k a = own-journal cs (step j c) (flatStep k c) (alike-step a c)
+-- the two journals after a list of commands without drop
+pub own-journal : (cs : List Command) (j k : Journal) → any isDrop cs ≡ false → Alike j k → Alike (fed step j cs) (fed flatStep k cs)
+own-journal [] j k n a = a
+own-journal (c ∷ cs) j k n a =
+    let m = dropless-parts c cs n in own-journal cs (step j c) (flatStep k c) (m .1) (alike-step a c (m .0))
+
+-- what lists and rows follow on every list is the journal after their commands alone
+pub own-fed : (cs : List Command) (k : Journal) → fed flatStep k cs ≡ run k (keep flat cs)
+unfolding keep
+own-fed [] k = refl
+own-fed (c ∷ cs) k = sets.by-cases (flat c) (λ t. rw t (own-fed cs (step k c))) (λ t. rw t (own-fed cs k))
 
 -- ---- what the journal promises of its shift and loans (model/proofs/Shifts) holds of the chain unit, whose images are the journal's
 pub unit-images : (cs : List Command) → calls freshUnits cs .chains ≡ imagesOf (run fresh cs)

@@ -1,4 +1,4 @@
--- The handover examples: by computation on the journal, and from there to the units by `own-agreement`.
+-- The handover examples: by computation on the journal, and from there to the units by `agreement`.
 use mathlib.Core.Path.{_≡_, refl, sym, ap, ap₂, _∙_, subst}
 use mathlib.Core.Bool.{Bool, true, false, _&&_, _||_, cond, false≢true}
 use mathlib.Core.List.{List, [], _∷_, _++_, map}
@@ -17,15 +17,15 @@ use Rattle.model.specs.Journal.{step, run, Loan, Journal, grant, sameGrant, sam
 use Rattle.layouts.specs.Layouts.{lists, rows}
 use Rattle.model.specs.Chain.{granted, lent, Meets, JournalChain}
 use Rattle.agreement.specs.Agreement.{Units, Agrees, Answers, Follows, called, freshUnits, flatStep, fed}
-use Rattle.agreement.specs.Examples.{Route, route, start, extends, onward, extended, serves, routes, routesTo, Question, asks, checks, Said, number, passed, no, flatYes, yes, highest, best, said, flatSaid, Example, base, lentFor2, examples, outcome, flatOutcome, calls, saidOf, chainSaid, chainOutcome, unitSaid, listOutcome, rowOutcome}
+use Rattle.agreement.specs.Examples.{Route, route, start, extends, onward, extended, serves, routes, routesTo, Question, asks, checks, Said, number, passed, no, flatYes, yes, highest, best, said, flatSaid, Example, base, lentFor2, threeDepths, examples, outcome, flatOutcome, calls, saidOf, chainSaid, chainOutcome, unitSaid, listOutcome, rowOutcome}
 use Rattle.bits.proofs.Sets.{all-true, fst, snd, both, or-left, or-right, by-cases, either, found, any-same, any-keep, any-map, eqb-self}
 use Rattle.model.proofs.Invariant.{same-loan, same-grant, loan-self, grant-self}
 use Rattle.model.proofs.Steps.{kept-run, kept-fresh}
-use Rattle.agreement.proofs.Agreement.{own-agreement, journal-short}
+use Rattle.agreement.proofs.Agreement.{agreement, journal-short}
 
--- E1 to E12, and the rows of the shift and of allowset
+-- E1 to E12, and the rows of the shift, of allowset and of drop
 pub examples-hold : map outcome examples ≡ map (λ (e : Example). e .expected) examples
-unfolding fresh base lentFor2 carries examples any all keep add tabulate members bit lowest extended routes routesTo highest best
+unfolding fresh base lentFor2 threeDepths carries examples any all keep add tabulate members bit lowest extended routes routesTo highest best
 examples-hold = refl
 
 -- a lend whose last shift is past is answered 13, with 1,024 loans standing or not: 13 comes before 10
@@ -295,10 +295,10 @@ next-answers (x ∷ cs) c j k u h = next-answers cs c (step j x) (flatStep k x) 
 
 -- the units after a list of commands from the start
 after-all : (cs : List Command) → Agrees (run fresh cs) (fed flatStep fresh cs) (calls freshUnits cs)
-after-all cs = last-agrees cs fresh fresh freshUnits (own-agreement cs)
+after-all cs = last-agrees cs fresh fresh freshUnits (agreement cs .every)
 
 next-after : (cs : List Command) (c : Command) → Answers (run fresh cs) (fed flatStep fresh cs) (calls freshUnits cs) c
-next-after cs c = next-answers cs c fresh fresh freshUnits (own-agreement (cs ++ (c ∷ [])))
+next-after cs c = next-answers cs c fresh fresh freshUnits (agreement (cs ++ (c ∷ [])) .every)
 
 -- a question that agreement settles: within the limits, and with one best chain at most
 abbrev within : Question → Bool
@@ -338,7 +338,7 @@ same-outcomes f g q (x ∷ es) h e =
     ap₂ (λ (y : Said) (ys : List Said). y ∷ ys) (e x (fst (q x) (all q es) h)) (same-outcomes f g q es (snd (q x) (all q es) h) e)
 
 all-settled : all settled examples ≡ true
-unfolding fresh base lentFor2 carries examples any all keep add tabulate members bit lowest extended routes routesTo highest best
+unfolding fresh base lentFor2 threeDepths carries examples any all keep add tabulate members bit lowest extended routes routesTo highest best
 all-settled = refl
 
 -- E1 to E12, of the chain unit
@@ -361,7 +361,7 @@ flat-says cs (checks p) =
     (ap (λ b. cond b flatYes no) (a .list .yes p 9 1), ap (λ b. cond b flatYes no) (a .row .yes p 9 1))
 
 flat-expected : map flatOutcome examples ≡ map (λ (e : Example). e .flat) examples
-unfolding fresh base lentFor2 carries examples any all keep add tabulate members bit lowest
+unfolding fresh base lentFor2 threeDepths carries examples any all keep add tabulate members bit lowest
 flat-expected = refl
 
 same-flat : (f : Example → Said) → ((e : Example) → f e ≡ flatOutcome e) → map f examples ≡ map (λ (e : Example). e .flat) examples

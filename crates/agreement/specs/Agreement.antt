@@ -1,14 +1,15 @@
 -- Demand 3, as one statement about a whole list of commands.
 use mathlib.Core.Path.{_≡_}
-use mathlib.Core.Bool.{true, cond}
+use mathlib.Core.Bool.{true, false, cond}
 use mathlib.Core.List.{List, [], _∷_}
 use mathlib.Core.Logic.{_↔_}
 use Prim.Native.Nat.{ℕ, _≤_}
 use lib.ListN.{length}
+use Rattle.bits.specs.Sets.{any}
 use Rattle.model.specs.declared.Command.{Command}
 use Rattle.model.specs.Answers.{flat, asked, nothing}
 use Rattle.layouts.specs.Machine.{answerOf, stepOf}
-use Rattle.model.specs.Journal.{Journal, answered, fresh, step, hasGrant}
+use Rattle.model.specs.Journal.{Journal, answered, fresh, step, hasGrant, isDrop}
 use Rattle.layouts.specs.Layouts.{Layout, lists, rows, flatUnit, checkNumber, checkYes, checkLeft, freshImage}
 use Rattle.model.specs.Chain.{Meets, JournalChain, JournalAccess}
 use Rattle.delegation.specs.Images.{Images}
@@ -71,17 +72,16 @@ abbrev pub Follows : (Journal → Command → Journal) → Journal → Journal �
 Follows feed j k u [] = Agrees j k u
 Follows feed j k u (c ∷ cs) = Agrees j k u × Answers j k u c × Follows feed (step j c) (feed k c) (called u c) cs
 
--- demand 3: one journal for all three
-abbrev pub Agreement : List Command → Type 0
-Agreement cs = Follows step fresh fresh freshUnits cs
-
 -- a journal that is fed only the commands that lists and rows have
 abbrev pub flatStep : Journal → Command → Journal
 flatStep k c = cond (flat c) (step k c) k
 
--- lists and rows, held to such a journal
-abbrev pub OwnAgreement : List Command → Type 0
-OwnAgreement cs = Follows flatStep fresh fresh freshUnits cs
+-- demand 3, with 'Lists and rows pass it over and are held to the journal only on lists without drop, the chain unit on all'
+pub record Agreement (cs : List Command) : Type 0 where
+  -- on every list of commands the chain unit follows the journal, and lists and rows one that is fed only the commands that they have
+  pub every : Follows flatStep fresh fresh freshUnits cs
+  -- on a list without drop all three follow the one journal
+  pub dropless : any isDrop cs ≡ false → Follows step fresh fresh freshUnits cs
 
 -- a journal after these commands, where `feed` feeds it
 abbrev pub fed : (Journal → Command → Journal) → Journal → List Command → Journal

@@ -1,11 +1,12 @@
--- Document 01's handover examples E1 to E12, as one table over the journal, and document 02's shifts and allowset in rows of their own.
+-- Document 01's handover examples E1 to E12, as one table over the journal, and document 02's shifts, allowset and drop in rows
+-- of their own.
 use mathlib.Core.Bool.{Bool, _&&_, cond}
 use mathlib.Core.List.{List, [], _∷_, _++_, map}
 use Prim.Native.Nat.{ℕ, zero, suc, _-_, min, max}
 use lib.ListN.{take, replicate}
 use lib.Dec.{eqb, leb}
 use Rattle.model.specs.declared.Command.{Command}
-use Rattle.model.specs.declared.Command.the-variants.{Create, Delete, Allow, Withdraw, Lend, Recall, Shift, AllowSet}
+use Rattle.model.specs.declared.Command.the-variants.{Create, Delete, Allow, Withdraw, Lend, Recall, Shift, AllowSet, Drop}
 use Rattle.bits.specs.Sets.{keep}
 use Rattle.model.specs.Answers.{Found, flat}
 use Rattle.layouts.specs.Machine.{answerOf}
@@ -109,6 +110,10 @@ base = Create 0 3 ∷ Create 0 4 ∷ Create 0 5 ∷ Create 0 9 ∷ Allow 0 3 9 1
 unfoldable pub lentFor2 : List Command
 lentFor2 = Shift 0 2 ∷ Lend 3 0 9 1 1 2 ∷ []
 
+-- 3 has the depths 0, 3 and 7 on 9, right 1
+unfoldable pub threeDepths : List Command
+threeDepths = Withdraw 0 3 9 1 ∷ Allow 0 3 9 1 0 ∷ Allow 0 3 9 1 3 ∷ Allow 0 3 9 1 7 ∷ []
+
 -- the paper's examples, a row each, in its order
 unfoldable pub examples : List Example
 examples =
@@ -192,6 +197,33 @@ examples =
     ∷ row [] (asks (AllowSet 7 0 64 1 3)) (number 3) (number 3)
     ∷ row [] (asks (AllowSet 0 0 9 8 3)) (number 3) (number 3)
     ∷ row [] (asks (AllowSet 0 48 9 1 8)) (number 3) (number 3)
+    -- '`drop` .. ends one grant': the greatest depth is then the greatest that still stands. Lists and rows pass it over
+    ∷ row threeDepths (asks (Drop 0 3 9 1 7)) (number 0) passed
+    ∷ row (threeDepths ++ (Drop 0 3 9 1 7 ∷ [])) (checks 3) (yes 3 ((3 ∷ []) ∷ [])) flatYes
+    ∷ row (threeDepths ++ (Drop 0 3 9 1 7 ∷ [])) (checks 4) (yes 1 ((3 ∷ 4 ∷ []) ∷ [])) no
+    ∷ row (threeDepths ++ (Drop 0 3 9 1 7 ∷ Drop 0 3 9 1 3 ∷ [])) (checks 3) (yes 0 ((3 ∷ []) ∷ [])) flatYes
+    ∷ row (threeDepths ++ (Drop 0 3 9 1 7 ∷ Drop 0 3 9 1 3 ∷ [])) (checks 4) no no
+    ∷ row (threeDepths ++ (Drop 0 3 9 1 0 ∷ [])) (checks 3) (yes 7 ((3 ∷ []) ∷ [])) flatYes
+    -- a depth that does not stand: nothing ends
+    ∷ row threeDepths (asks (Drop 0 3 9 1 5)) (number 0) passed
+    ∷ row (threeDepths ++ (Drop 0 3 9 1 5 ∷ [])) (checks 3) (yes 7 ((3 ∷ []) ∷ [])) flatYes
+    -- of the only depth: the drawer is closed as by withdraw, but not for lists and rows; loans stay
+    ∷ row (Drop 0 3 9 1 2 ∷ []) (checks 3) no flatYes
+    ∷ row (Drop 0 3 9 1 2 ∷ []) (checks 5) no no
+    ∷ row (Drop 0 3 9 1 2 ∷ Allow 0 3 9 1 1 ∷ []) (checks 4) (yes 0 ((3 ∷ 4 ∷ []) ∷ [])) no
+    -- 'drop has withdraw's refusals and 3 for the depth'
+    ∷ row [] (asks (Drop 0 3 9 1 7)) (number 0) passed
+    ∷ row [] (asks (Drop 7 3 7 1 8)) (number 3) passed
+    ∷ row [] (asks (Drop 7 7 9 1 2)) (number 4) passed
+    ∷ row [] (asks (Drop 3 7 9 1 2)) (number 5) passed
+    ∷ row [] (asks (Drop 3 3 7 1 2)) (number 5) passed
+    ∷ row [] (asks (Drop 3 3 9 1 2)) (number 8) passed
+    -- the last edit grant dropped: 8 from then on, while lists and rows go on
+    ∷ row (Drop 0 0 9 0 0 ∷ []) (asks (Allow 0 4 9 1 0)) (number 8) (number 0)
+    ∷ row (Drop 0 0 9 0 0 ∷ []) (asks (Drop 0 3 9 1 2)) (number 8) passed
+    -- 'withdraw is eight drops, checked once before the first': one's own edit grants too, of two depths
+    ∷ row (Allow 0 0 9 0 3 ∷ []) (asks (Withdraw 0 0 9 0)) (number 0) (number 0)
+    ∷ row (Allow 0 0 9 0 3 ∷ Withdraw 0 0 9 0 ∷ []) (asks (Allow 0 4 9 1 0)) (number 8) (number 8)
     ∷ []
 
 -- what the journal says after an example's commands

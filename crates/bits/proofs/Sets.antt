@@ -167,6 +167,48 @@ module _ {A : Type 0} where
       swap true false e = refl
       swap false false e = refl
 
+  -- tests that say the same of every element keep the same
+  pub keep-cong : (f f′ q : A → Bool) (xs : List A) → all q xs ≡ true → ((x : A) → q x ≡ true → f x ≡ f′ x) → keep f xs ≡ keep f′ xs
+  unfolding any all keep add
+  keep-cong f f′ q [] h e = refl
+  keep-cong f f′ q (x ∷ xs) h e =
+      ap₂ (λ (b : Bool) (ys : List A). cond b (x ∷ ys) ys) (e x (fst (q x) (all q xs) h)) (keep-cong f f′ q xs (snd (q x) (all q xs) h) e)
+
+  -- a test that every element passes keeps all
+  pub keep-all : (f : A → Bool) (xs : List A) → all f xs ≡ true → keep f xs ≡ xs
+  unfolding any all keep add
+  keep-all f [] h = refl
+  keep-all f (x ∷ xs) h = rw (fst (f x) (all f xs) h) (ap (λ (ys : List A). x ∷ ys) (keep-all f xs (snd (f x) (all f xs) h)))
+
+  -- what is kept of what was kept passes both tests
+  pub keep-keep : (f g : A → Bool) (xs : List A) → keep f (keep g xs) ≡ keep (λ x. g x && f x) xs
+  unfolding any all keep add
+  keep-keep f g [] = refl
+  keep-keep f g (x ∷ xs) = go (g x) (keep-keep f g xs)
+    where
+      go : (b : Bool) → keep f (keep g xs) ≡ keep (λ x. g x && f x) xs
+          → keep f (cond b (x ∷ keep g xs) (keep g xs)) ≡ cond (b && f x) (x ∷ keep (λ x. g x && f x) xs) (keep (λ x. g x && f x) xs)
+      go true e = ap (λ (ys : List A). cond (f x) (x ∷ ys) ys) e
+      go false e = e
+
+  -- a test does not see the order
+  pub any-order : (same : A → A → Bool) → ((x y : A) → same x y ≡ true → x ≡ y) → ((x : A) → same x x ≡ true) → (q : A → Bool)
+      → (xs ys : List A)
+      → ((x : A) → any (same x) xs ≡ any (same x) ys) → any q xs ≡ any q ys
+  any-order same law self q xs ys e =
+      iff (any q xs) (any q ys) (half xs ys (λ x h. sym (e x) ∙ h)) (half ys xs (λ x h. e x ∙ h))
+    where
+      half : (xs ys : List A) → ((x : A) → any (same x) xs ≡ true → any (same x) ys ≡ true) → any q xs ≡ true → any q ys ≡ true
+      half xs ys e t = let f = found q same self xs t in any-same q same law (f .0) ys (e (f .0) (f .2)) (f .1)
+
+  -- each element stands in its list
+  pub all-in : (same : A → A → Bool) → ((x : A) → same x x ≡ true) → (xs : List A) → all (λ x. any (same x) xs) xs ≡ true
+  unfolding any all keep add
+  all-in same law [] = refl
+  all-in same law (x ∷ xs) =
+      both (or-left (same x x) (any (same x) xs) (law x))
+      (all-mono (λ y. any (same y) xs) _ xs (all-in same law xs) (λ y h. or-right (same y x) (any (same y) xs) h))
+
   pub all-and : (p q : A → Bool) (xs : List A) → all (λ x. p x && q x) xs ≡ all p xs && all q xs
   unfolding any all keep add
   all-and p q [] = refl
@@ -207,10 +249,3 @@ all-from q (x ∷ xs) h =
 -- and each of them does
 pub all-at : (q : ℕ → Bool) (xs : List ℕ) → all q xs ≡ true → (i : ℕ) → any (eqb i) xs ≡ true → q i ≡ true
 all-at q xs h i e = let f = find (eqb i) q xs h e in ap q (eqb-true i (f .0) (f .2)) ∙ f .1
-
--- a test does not see the order
-pub any-order : (q : ℕ → Bool) (xs ys : List ℕ) → ((i : ℕ) → any (eqb i) xs ≡ any (eqb i) ys) → any q xs ≡ any q ys
-any-order q xs ys e = iff (any q xs) (any q ys) (half xs ys (λ i h. sym (e i) ∙ h)) (half ys xs (λ i h. e i ∙ h))
-  where
-    half : (xs ys : List ℕ) → ((i : ℕ) → any (eqb i) xs ≡ true → any (eqb i) ys ≡ true) → any q xs ≡ true → any q ys ≡ true
-    half xs ys e t = let f = found q eqb eqb-self xs t in any-same q eqb eqb-true (f .0) ys (e (f .0) (f .2)) (f .1)

@@ -1,4 +1,4 @@
-// The chain unit: grants with depths in an image of 32,776 bytes, the shift and the loans in an image of 1,025 words, the eight commands
+// The chain unit: grants with depths in an image of 32,776 bytes, the shift and the loans in an image of 1,025 words, the nine commands
 // over both, and the check that follows carrying loans through anyone with depth left.
 use delegation::loan;
 use grants::Grants;
@@ -23,7 +23,7 @@ ghost use mathlib.Core.Bool.{true, not};
 ghost use Prim.Native.Nat.{_≤_, _<_};
 ghost use lib.Dec.{eqb};
 ghost use lib.ListN.{length};
-ghost use Rattle.model.specs.declared.Command.the-variants.{Create, Delete, Allow, Withdraw, Lend, Recall, AllowSet};
+ghost use Rattle.model.specs.declared.Command.the-variants.{Create, Delete, Allow, Withdraw, Lend, Recall, AllowSet, Drop};
 ghost use Rattle.model.specs.declared.Command.the-variants as command;
 ghost use Rattle.model.specs.Commands.{Ranged, rawOf};
 ghost use Rattle.model.specs.Answers.{numberOf};
@@ -157,6 +157,7 @@ fn apply(grants: &mut [u8], loans: &mut [u32], t: Typed)
         Verb::Recall => drop_loan(loans, loan_word(t)),
         Verb::Shift => set_shift(loans, t.shift),
         Verb::AllowSet => grants::put_grants(grants, t.set, t.on, t.right, t.depth),
+        Verb::Drop => grants::drop_grant(grants, t.to, t.on, t.right, t.depth),
     }
 }
 
@@ -265,6 +266,32 @@ pub fn withdraw(
         (images (now (grants .exit)) (now (loans .exit))) ⌝ }
 {
     offer(grants, loans, Command::Withdraw { by, to, on, right })
+}
+
+// One depth alone; withdraw is this for each of them.
+pub fn drop(
+    grants: &mut [u8],
+    loans: &mut [u32],
+    by: u32,
+    to: u32,
+    on: u32,
+    right: u32,
+    depth: u32,
+) -> Answer
+    ensures { λ r. ⌜ Ran chainUnit (images (now (grants .entry)) (now (loans .entry))) (Drop by to on right depth) r
+        (images (now (grants .exit)) (now (loans .exit))) ⌝ }
+{
+    offer(
+        grants,
+        loans,
+        Command::Drop {
+            by,
+            to,
+            on,
+            right,
+            depth,
+        },
+    )
 }
 
 pub fn lend(

@@ -7,3 +7,4 @@ pub mod Steps
 pub mod ChainUnit
 pub mod Plain
 pub mod AllowSet
+pub mod Drop

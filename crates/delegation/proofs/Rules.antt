@@ -9,7 +9,8 @@ use lib.ListN.{length, getD}
 use lib.Dec.{eqb, leb}
 use Rattle.model.specs.Answers.{asked}
 use Rattle.model.specs.Journal.{grant}
-use Rattle.layouts.specs.Layouts.{Layout, depths, liveIn, grantBit, held, inOrder, grantBytes, checkNumber, checkYes}
+use Rattle.model.specs.Commands.{depths}
+use Rattle.layouts.specs.Layouts.{Layout, liveIn, grantBit, held, inOrder, grantBytes, checkNumber, checkYes}
 use Rattle.model.specs.Chain.{Access, Greatest, Meets}
 use Rattle.delegation.specs.Loans.{lender, borrower, loanDepth, loansInOrder}
 use Rattle.delegation.specs.Images.{Images, standingIn, WordCarries, ImageChain}
@@ -19,7 +20,8 @@ use Rattle.bits.proofs.Sets.{fst, snd, both, by-cases, find}
 use Rattle.model.proofs.Invariant.{passed, asked-in, asked-limits}
 use Rattle.model.proofs.Chain.{meets-access, greatest-exists}
 use Rattle.layouts.specs.Laws.{Laws}
-use Rattle.layouts.proofs.Layouts.{small, order-live}
+use Rattle.model.proofs.Commands.{small}
+use Rattle.layouts.proofs.Layouts.{order-live}
 use Rattle.delegation.proofs.Search.{meets, dead-no}
 
 -- what the four rules derive from the grants and carrying loans of the images

@@ -7,7 +7,7 @@ use native.Mathlib.Omega.{arith}
 use lib.ListN.{length}
 use lib.Dec.{eqb}
 use Rattle.model.specs.declared.Command.{Command}
-use Rattle.model.specs.declared.Command.the-variants.{Create, Delete, Allow, Withdraw, Lend, Recall, Shift, AllowSet}
+use Rattle.model.specs.declared.Command.the-variants.{Create, Delete, Allow, Withdraw, Lend, Recall, Shift, AllowSet, Drop}
 use Rattle.delegation.specs.declared.loan.Header.{Header}
 use Rattle.model.specs.Commands.{argumentsOf, membersOf, mostLoans}
 use Rattle.model.specs.Journal.{Loan, Journal, grant, loan, sameLoan, loanNames, facts, answered, apply}
@@ -15,11 +15,13 @@ use Rattle.layouts.specs.Layouts.{grantBytes}
 use Rattle.delegation.specs.Loans.{wordOf, wordNames, movedTo, loansImage}
 use Rattle.delegation.specs.Images.{Images, images}
 use Rattle.delegation.specs.ChainUnit.{chainAfter}
+use Rattle.bits.proofs.Sets.{fst, snd, both}
 use Rattle.model.proofs.Invariant.{accepted, loans-ranged}
 use Rattle.model.proofs.AllowSet.{loans-granted, shift-granted}
 use Rattle.model.specs.Invariant.{rangedLoan, LoanInv, Kept}
 use Rattle.layouts.specs.Laws.{imageOf}
-use Rattle.layouts.proofs.Layouts.{bytes-laws, created-of, deleted-of, allowed-of, allowed-set-of, withdrawn-of, same-image}
+use Rattle.layouts.proofs.Layouts.{bytes-laws, created-of, deleted-of, allowed-of, allowed-set-of, same-image}
+use Rattle.layouts.proofs.Drops.{withdrawn-of, dropped-of}
 use Rattle.delegation.proofs.Loans.{word-names, word-same, sorted, keep-sorted, sorted-add, length-sorted, kept-of, with-of, at-of}
 
 -- ---- the chain unit
@@ -54,7 +56,12 @@ chain-after j v (Delete by on) e =
 chain-after j v (Allow by to on right depth) e =
     ap (λ g. images g (loansOf j (j .loans))) (allowed-of grantBytes bytes-laws j (v .inv) by to on right depth)
 chain-after j v (Withdraw by to on right) e =
-    ap (λ g. images g (loansOf j (j .loans))) (withdrawn-of grantBytes bytes-laws j (v .inv) by to on right)
+    let k = accepted (facts j (argumentsOf (Withdraw by to on right))) (argumentsOf (Withdraw by to on right)) e .fits in
+    ap (λ g. images g (loansOf j (j .loans)))
+    (withdrawn-of grantBytes bytes-laws j (v .inv) by to on right (search (fst, snd, both)))
+chain-after j v (Drop by to on right depth) e =
+    let k = accepted (facts j (argumentsOf (Drop by to on right depth))) (argumentsOf (Drop by to on right depth)) e .fits in
+    ap (λ g. images g (loansOf j (j .loans))) (dropped-of j (v .inv) by to on right depth (search (fst, snd, both)))
 chain-after j v (Lend by to on right depth last) e =
     let a = argumentsOf (Lend by to on right depth last) in
     ap₂ images (same-image grantBytes bytes-laws j (apply j (Lend by to on right depth last)) refl refl)

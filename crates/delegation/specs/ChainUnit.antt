@@ -1,4 +1,4 @@
--- The chain unit: its eight commands, and its check.
+-- The chain unit: its nine commands, and its check.
 use mathlib.Core.Path.{_≡_}
 use mathlib.Core.Bool.{Bool, true, not, _&&_, cond}
 use mathlib.Core.List.{List, []}
@@ -15,10 +15,10 @@ use Rattle.bits.specs.Sets.{any, all}
 use Rattle.layouts.specs.Machine.{Machine, guardedBy}
 use Rattle.model.specs.Commands.{membersOf, mostLoans}
 use Rattle.model.specs.Answers.{Found, asked, Numbered, chainCheckedOf, nothing, _when_else_}
-use Rattle.model.specs.Journal.{grant, carries, loanIn}
-use Rattle.layouts.specs.Layouts.{grantBytes, grantCells, liveIn, held, inOrder, created, deleted, allowed, allowedSet, withdrawn, freshImage}
+use Rattle.model.specs.Journal.{Grant, grant, carries, loanIn}
+use Rattle.layouts.specs.Layouts.{grantBytes, grantCells, liveIn, held, inOrder, created, deleted, allowed, allowedSet, dropped, withdrawn, freshImage}
 use Rattle.delegation.specs.Loans.{wordOf, wordNames, wordDated, loanWords, countOf, shiftIn, used, loansImage, loansWith, loansKept, loansAt, freshHeader, loansInOrder}
-use Rattle.delegation.specs.Images.{Images, images}
+use Rattle.delegation.specs.Images.{Images, images, standingIn}
 use Rattle.delegation.specs.Search.{foundOf, chainOf}
 
 -- 'no dead item is named in it (for loans, by the grants' roll)'
@@ -32,6 +32,14 @@ chainSized s room = eqb (length (s .grants)) grantCells && eqb (length (s .loans
 -- the answer n, after numbers 1 and 2
 abbrev pub chainGuarded : Images → Bool → ℕ → ℕ
 chainGuarded s room n = guardedBy (chainSized s room) (chainInOrder s) n
+
+-- the same of a command, which is lent both images alone
+abbrev pub chainGuard : Images → ℕ → ℕ
+chainGuard s n = chainGuarded s true n
+
+-- the grants that stand in a chain unit
+abbrev pub chainStands : Images → Grant → Bool
+chainStands s g = standingIn (s .grants) g
 
 -- what the table asks; back: 'the new shift is below the present one and such a loan stands'; past: 'last is set and below the present
 -- shift'; full: '1,024 loans stand and this is not one of them'
@@ -56,6 +64,7 @@ chainDone s a verb.Withdraw = images (withdrawn grantBytes (s .grants) (a .to) (
 chainDone s a verb.Lend = images (s .grants) (loansWith (wordOf (loanIn a)) (s .loans))
 chainDone s a verb.Recall = images (s .grants) (loansKept (λ w. not (eqb (wordOf (loanIn a)) w)) (s .loans))
 chainDone s a verb.Shift = images (s .grants) (loansAt (a .shift) (s .loans))
+chainDone s a verb.Drop = images (dropped grantBytes (s .grants) (grant (a .to) (a .on) (a .right) (a .depth))) (s .loans)
 chainDone s a verb.AllowSet = images (allowedSet grantBytes (s .grants) (a .set) (a .on) (a .right) (a .depth)) (s .loans)
 
 -- by the verb of its arguments

@@ -9,14 +9,17 @@ use borrow.Author.Tests.{eqb-true, eq-eqb, ne-eqb, leb-true}
 use lib.ListN.{length, getD, set}
 use lib.Dec.{eqb, leb}
 use Rattle.model.specs.Journal.{grant}
-use Rattle.bits.specs.Bits.{bit, withBit}
+use Rattle.bits.specs.Bits.{bit, withBit, withoutBit}
 use Rattle.bits.specs.Cells.{at}
 use Rattle.bits.specs.Zeros.{zeroed, spaced}
-use Rattle.layouts.specs.Layouts.{grantBytes, grantCells, depths, held, created, deleted, allowed, withdrawn}
+use Rattle.model.specs.Commands.{depths}
+use Rattle.layouts.specs.Layouts.{grantBytes, grantCells, held, created, deleted, allowed, dropped, withdrawn}
 use Rattle.bits.proofs.Sets.{iff, fst, snd, both, any-cong}
-use Rattle.layouts.proofs.Layouts.{bytes-laws, small}
+use Rattle.model.proofs.Commands.{small}
+use Rattle.layouts.proofs.Layouts.{bytes-laws}
 use Rattle.bits.proofs.Marks.{Cells, marked, cleared, at-cell}
-use Rattle.layouts.proofs.Edits.{allow-is, create-is, some-depth, withdraw-cell, delete-cells}
+use Rattle.layouts.proofs.Subjects.{bytes-whole}
+use Rattle.layouts.proofs.Edits.{in-range, allow-is, cleared-is, create-is, some-depth, withdraw-cell, delete-cells}
 use Rattle.bits.proofs.Zeros.{spaced-before, spaced-block, spaced-column}
 
 abbrev byteAt : ℕ → ℕ → ℕ → ℕ
@@ -52,11 +55,18 @@ module _ (s : List ℕ) (l : length s ≡ grantCells) (h : Cells 8 s) where
     grants-allow d i v m f g =
         rw (g, f) (allow-is grantBytes bytes-laws s l h p o r d k (d % 8) a b c m (omega arith) (omega arith))
 
+    pub grants-drop : (d i v : ℕ) → d < 8 → i ≡ d → v ≡ withoutBit (getD s k 0) (i % 8) → set s k v ≡ dropped grantBytes s (grant p o r d)
+    unfolding grantBytes
+    grants-drop d i v m f g =
+        rw (g, f)
+        (cleared-is grantBytes bytes-laws s l h _ k (d % 8) (bytes-laws .below (grant p o r d) (in-range p o r d a b c m)) (omega arith)
+        (omega arith))
+
     pub grants-withdraw : set s k 0 ≡ withdrawn grantBytes s p o r
     unfolding grantBytes
     grants-withdraw =
         rw e
-        (withdraw-cell grantBytes bytes-laws s l h p o r (byteAt p o r) (omega arith)
+        (withdraw-cell grantBytes bytes-laws s l h bytes-whole p o r (byteAt p o r) a b c (omega arith)
         (λ i u. ne-eqb (i / 8) (byteAt p o r) (λ z. omega arith))
         (λ i u. about p o r i a b c u))
 

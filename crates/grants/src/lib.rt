@@ -13,7 +13,7 @@ ghost use Prim.Native.Nat.{_+_, _*_, _<_};
 ghost use lib.ListN.{length, getD};
 ghost use Rattle.model.specs.Journal.{grant};
 ghost use Rattle.layouts.specs.Live.{masksOf};
-ghost use Rattle.layouts.specs.Layouts.{grantBytes, grantCells, held, inOrder, created, deleted, allowed, allowedSet, withdrawn, freshImage, freshOf};
+ghost use Rattle.layouts.specs.Layouts.{grantBytes, grantCells, held, inOrder, created, deleted, allowed, allowedSet, dropped, withdrawn, freshImage, freshOf};
 
 mod scan;
 
@@ -92,7 +92,16 @@ pub fn put_grants(grants: &mut [u8], set: ItemSet, on: Item, right: Right, depth
     bytes::set_each(grants, at, 1, set.number(), depth.number());
 }
 
-// Every depth ends.
+// One depth ends, if it stands.
+pub fn drop_grant(grants: &mut [u8], to: Item, on: Item, right: Right, depth: Depth)
+    requires { ⌜ (length (now grants) ≡ grantCells) × (to .0 < 64) × (on .0 < 64) × (right .0 < 8) × (depth .0 < 8) ⌝ }
+    ensures { λ _. ⌜ now (grants .exit) ≡ dropped grantBytes (now (grants .entry)) (grant (to .0) (on .0) (right .0) (depth .0)) ⌝ }
+{
+    let at = place(to, on, right);
+    grants[at] = byte::without(grants[at], depth.number());
+}
+
+// Every depth ends: the eight drops in one write.
 pub fn drop_grants(grants: &mut [u8], to: Item, on: Item, right: Right)
     requires { ⌜ (length (now grants) ≡ grantCells) × (to .0 < 64) × (on .0 < 64) × (right .0 < 8) ⌝ }
     ensures { λ _. ⌜ now (grants .exit) ≡ withdrawn grantBytes (now (grants .entry)) (to .0) (on .0) (right .0) ⌝ }

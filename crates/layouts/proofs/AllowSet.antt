@@ -12,32 +12,22 @@ use lib.Dec.{eqb, leb}
 use Rattle.bits.specs.Sets.{any, all}
 use Rattle.bits.specs.Cells.{at}
 use Rattle.model.specs.declared.Command.the-variants.{Allow, AllowSet}
-use Rattle.model.specs.Commands.{items, rightDepth, argumentsOf, membersOf, isEmpty}
+use Rattle.model.specs.Commands.{depths, items, rightDepth, argumentsOf, membersOf, isEmpty}
 use Rattle.model.specs.Journal.{Grant, grant, lowest}
 use Rattle.model.specs.AllowSet.{Orders, AllowsSet}
 use Rattle.model.specs.Invariant.{ranged}
 use Rattle.layouts.specs.Machine.{Machine, answerOf, stepOf}
-use Rattle.layouts.specs.Layouts.{Layout, lists, rows, liveIn, grantBit, build, held, inOrder, allowed, allowedSet, depths, flatUnit}
+use Rattle.layouts.specs.Layouts.{Layout, lists, rows, liveIn, grantBit, build, held, inOrder, allowed, allowedSet, flatUnit}
 use Rattle.layouts.specs.Laws.{Laws, Whole}
 use Rattle.bits.proofs.Sets.{by-cases, fst, snd, both, or-left, or-right, any-mono, either, any-map, any-order, eqb-self}
 use Rattle.bits.proofs.Indexed.{below-intro, below-elim}
 use Rattle.bits.proofs.Cells.{length-image}
 use Rattle.model.proofs.OneByOne.{Singles, one-by-one}
 use Rattle.model.proofs.AllowSet.{Team, Ready, answer-lowest, asked, single-done, none-named, everyone}
-use Rattle.layouts.proofs.Layouts.{live-build, bit-at-build, build-cong, small}
+use Rattle.model.proofs.Commands.{small}
+use Rattle.layouts.proofs.Layouts.{places-within, live-build, bit-at-build, build-cong}
 use Rattle.layouts.proofs.Holding.{Holds}
 use Rattle.layouts.proofs.Subjects.{lists-whole, rows-whole}
-
--- whom and what a place is about is within the limits
-places-within : (L : Layout) (H : Whole L) (k : ℕ) → k < L .size → (leb (L .person k) 63 ≡ true) × (leb (L .item k) 63 ≡ true)
-places-within L H k h =
-    let g = H .grant-at k in
-    let r : ranged (H .grant-at k) ≡ true = H .ranged-at k h in
-    let p : L .person k ≡ H .grant-at k .person = ap (L .person) (sym (H .place-at k h)) ∙ H .laws .person-of (H .grant-at k) r in
-    let i : L .item k ≡ H .grant-at k .item = ap (L .item) (sym (H .place-at k h)) ∙ H .laws .item-of (H .grant-at k) r in
-    let a : leb (H .grant-at k .person) 63 ≡ true = search (fst, snd) in
-    let b : leb (H .grant-at k .item) 63 ≡ true = search (fst, snd) in
-    (rw p a, rw i b)
 
 -- some list has a member
 no-order : (ms : List ℕ) → ((i : ℕ) → any (eqb i) [] ≡ any (eqb i) ms) → eqb (length ms) 0 ≡ false → ⊥
@@ -211,7 +201,7 @@ module _ (L : Layout) (H : Whole L) where
             each-allowed (f p) (map f ps) (image s)
             ∙ build-cong L W _ _ _ _ (λ i h. refl)
             (λ k h. ap (λ b. b || grantBit L (image s) k)
-            (any-map (λ g. eqb (L .place g) k) f (p ∷ ps) ∙ any-order (λ i. eqb (L .place (f i)) k) (p ∷ ps) (membersOf set) o))
+            (any-map (λ g. eqb (L .place g) k) f (p ∷ ps) ∙ any-order eqb eqb-true eqb-self (λ i. eqb (L .place (f i)) k) (p ∷ ps) (membersOf set) o))
 
         pub unit-allowset : AllowsSet (answerOf M) (stepOf M) _≡_ s by set on right depth
         unit-allowset = record {

@@ -8,21 +8,22 @@ use borrow.Author.Tests.{eqb-true, eq-eqb, ltb-true, ltb-false, le-leb, ne-eqb}
 use lib.ListN.{length, getD}
 use lib.Dec.{eqb, ltb, leb}
 use Rattle.bits.specs.Bits.{ofBits}
-use Rattle.model.specs.Commands.{items, rightDepth}
+use Rattle.model.specs.Commands.{depths, items, rightDepth}
 use Rattle.model.specs.declared.Answer.{Answer}
 use Rattle.model.specs.declared.Answer.the-variants as is
 use Rattle.model.specs.Answers.{asked, numberOf}
 use Rattle.model.proofs.Answers.{numbered}
 use Rattle.model.specs.Journal.{Grant, Journal, grant, lives}
 use Rattle.bits.specs.Cells.{at}
-use Rattle.layouts.specs.Layouts.{Layout, listWords, rowBytes, lists, rows, depths, liveIn, grantBit, build, held, inOrder, checkNumber, checkYes, guarded}
+use Rattle.layouts.specs.Layouts.{Layout, listWords, rowBytes, lists, rows, liveIn, grantBit, build, held, inOrder, checkNumber, checkYes, guarded}
 use Rattle.layouts.specs.Convert.{convert, Converts, convertNumber, convertOf}
 use Rattle.bits.proofs.Sets.{iff, fst, snd, both, or-left, or-right, by-cases, any-cong}
 use Rattle.bits.proofs.Indexed.{below-intro, below-elim}
 use Rattle.bits.proofs.Cells.{length-image, image-lt, cell-is}
 use Rattle.model.specs.Invariant.{ranged, sound, Inv}
 use Rattle.model.proofs.Invariant.{passed}
-use Rattle.layouts.proofs.Layouts.{small, build-cong, live-of, bit-at-of, live-build, bit-at-build}
+use Rattle.model.proofs.Commands.{small}
+use Rattle.layouts.proofs.Layouts.{build-cong, live-of, bit-at-of, live-build, bit-at-build}
 use Rattle.layouts.specs.Laws.{imageOf, Flat}
 use Rattle.bits.proofs.Marks.{Cells, image-is}
 use Rattle.layouts.proofs.Edits.{lists-flat, rows-flat}

@@ -14,13 +14,16 @@ use Rattle.bits.specs.Sets.{any}
 use Rattle.bits.specs.Bits.{bit, withBit}
 use Rattle.model.specs.Journal.{grant}
 use Rattle.bits.specs.Cells.{at}
-use Rattle.layouts.specs.Layouts.{Layout, lists, rows, liveIn, grantBit, build, held, created, deleted, allowed, withdrawn, freshImage, depths}
-use Rattle.bits.proofs.Sets.{iff, fst, snd, both, by-cases, find, any-same}
+use Rattle.model.specs.Commands.{depths}
+use Rattle.layouts.specs.Layouts.{Layout, lists, rows, liveIn, grantBit, build, held, created, deleted, allowed, withdrawn, freshImage}
+use Rattle.bits.proofs.Sets.{iff, both, by-cases, find, any-same}
 use Rattle.bits.proofs.Indexed.{length-tabulate}
 use Rattle.bits.proofs.Bits.{bit-of-zero, some-bit}
 use Rattle.model.specs.Invariant.{ranged}
-use Rattle.layouts.specs.Laws.{Laws, Flat}
-use Rattle.layouts.proofs.Layouts.{build-cong, lists-laws, rows-laws, depth-in, small}
+use Rattle.layouts.specs.Laws.{Laws, Flat, Whole}
+use Rattle.model.proofs.Commands.{depth-in, small}
+use Rattle.layouts.proofs.Drops.{withdrawn-eight, withdrawn-places}
+use Rattle.layouts.proofs.Layouts.{build-cong, lists-laws, rows-laws}
 use lib.Pow.{pow-pos}
 use Rattle.bits.specs.Zeros.{zeroed}
 use Rattle.bits.proofs.Marks.{Cells, blanks, blank, at-none, cleared, at-cleared, cells-cleared, marked, image-is, at-cell, at-marked, cells-marked}
@@ -118,24 +121,19 @@ module _ (L : Layout) (W : Laws L) where
     -- withdraw, in a layout without depth: the bit of its grant
     pub withdraw-is : Flat L → (to on right c b : ℕ) → to < 64 → on < 64 → right < 8 → b < L .width
         → 64 + L .place (grant to on right 0) ≡ c * L .width + b → cleared s c b ≡ withdrawn L s to on right
+    unfolding any
     withdraw-is F to on right c b t o r k e =
         let g : ranged (grant to on right 0) ≡ true = in-range to on right 0 t o r (omega arith) in
         cleared-is (L .place (grant to on right 0)) c b (W .below (grant to on right 0) g) k e
-        ∙ build-cong L W _ _ _ _ (λ i u. refl) (λ i u. ap (λ x. grantBit L s i && not x) (about i g u))
+        ∙ build-cong L W _ _ _ _ (λ i u. refl)
+        (λ i u. let e : eqb (L .place (grant to on right 0)) i ≡ any (λ d. eqb (L .place (grant to on right d)) i) depths
+        = simp (F .depthless) (same (eqb (L .place (grant to on right 0)) i)) in
+        ap (λ x. grantBit L s i && not x) e)
+        ∙ sym (withdrawn-eight L W s to on right)
       where
-        about : (i : ℕ) → ranged (grant to on right 0) ≡ true → i < L .size
-            → eqb (L .place (grant to on right 0)) i ≡ eqb (L .person i) to && eqb (L .item i) on && eqb (L .right i) right
-        about i g u =
-            iff _ _
-            (λ z. let q : i ≡ L .place (grant to on right 0) = sym (eqb-true (L .place (grant to on right 0)) i z) in
-            both (both (eq-eqb _ _ (ap (L .person) q ∙ W .person-of _ g)) (eq-eqb _ _ (ap (L .item) q ∙ W .item-of _ g)))
-            (eq-eqb _ _ (ap (L .right) q ∙ W .right-of _ g)))
-            (λ z. let x : L .person i ≡ to = eqb-true _ _ (fst _ (eqb (L .item i) on) (fst _ (eqb (L .right i) right) z)) in
-            let y : L .item i ≡ on = eqb-true _ _ (snd (eqb (L .person i) to) _ (fst _ (eqb (L .right i) right) z)) in
-            let v : L .right i ≡ right = eqb-true _ _ (snd (eqb (L .person i) to && eqb (L .item i) on) _ z) in
-            let q : i ≡ L .place (grant to on right 0) = sym (F .onto i u)
-            ∙ ap (L .place) (let q : grant (L .person i) (L .item i) (L .right i) 0 ≡ grant to on right 0 = cc in q) in
-            eq-eqb (L .place (grant to on right 0)) i (sym q))
+        same : (x : Bool) → x ≡ x || (x || (x || (x || (x || (x || (x || (x || false)))))))
+        same true = refl
+        same false = refl
 
     -- delete: any cells with every bit but those that name the item
     pub delete-is : (t : List ℕ) (on : ℕ) → length t ≡ L .cells → Cells (L .width) t
@@ -233,11 +231,12 @@ module _ (L : Layout) (W : Laws L) (s : List ℕ) (l : length s ≡ L .cells) (h
         (λ i u. bits-left (64 + i) ∙ rw (m i u, ne-eqb (64 + i) on (λ z. omega arith), and-true (grantBit L s i)))
 
   -- withdraw: the cell that has every depth of the grant
-  pub withdraw-cell : (to on right c : ℕ) → c < length s → ((i : ℕ) → i < 64 → eqb (i / L .width) c ≡ false)
+  pub withdraw-cell : Whole L → (to on right c : ℕ) → to < 64 → on < 64 → right < 8 → c < length s → ((i : ℕ) → i < 64 → eqb (i / L .width) c ≡ false)
       → ((i : ℕ) → i < L .size → eqb ((64 + i) / L .width) c ≡ eqb (L .person i) to && eqb (L .item i) on && eqb (L .right i) right)
       → set s c 0 ≡ withdrawn L s to on right
-  withdraw-cell to on right c j n m =
+  withdraw-cell H to on right c t o r j n m =
       zeroed-one s c j
       ∙ build-is L W _ _ _ (length-zeroed _ s ∙ l) (cells-zeroed _ s (L .width) h)
       (λ i u. at-zeroed _ s (L .width) i ∙ rw (n i u) (and-true _))
       (λ i u. at-zeroed _ s (L .width) (64 + i) ∙ rw (m i u))
+      ∙ sym (withdrawn-places L H s to on right (in-range to on right 0 t o r (omega arith)))

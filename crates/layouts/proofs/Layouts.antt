@@ -2,49 +2,31 @@
 use mathlib.Core.Path.{_≡_, refl, sym, ap, _∙_}
 use mathlib.Core.Bool.{Bool, true, false, not, _&&_, _||_, cond}
 use mathlib.Core.List.{List, map}
-use Prim.Native.Nat.{ℕ, zero, suc, _+_, _-_, _%_, _^_, _≤_, _<_}
+use Prim.Native.Nat.{ℕ, _+_, _-_, _%_, _^_, _≤_, _<_}
 use native.Mathlib.Omega.{arith}
 use borrow.Author.Tests.{eqb-true, eq-eqb, leb-true, ltb-true, lt-ltb, le-ltb, le-leb, ltb-false}
 use lib.ListN.{length, getD, List·getD-eq-default}
 use lib.Pow.{pow-pos}
 use lib.Dec.{eqb, leb, ltb}
 use Rattle.bits.specs.Sets.{any, all}
-use Rattle.model.specs.Commands.{items, rightDepth, argumentsOf, fits, membersOf}
+use Rattle.model.specs.Commands.{depths, items, rightDepth, argumentsOf, fits, membersOf}
 use Rattle.layouts.specs.Machine.{answerOf}
 use Rattle.model.specs.Journal.{Grant, Journal, grant, sameGrant, isTo, names, lives, facts, answered, fresh, apply, hasGrant}
 use Rattle.bits.specs.Cells.{at}
-use Rattle.layouts.specs.Layouts.{Layout, lists, rows, grantBytes, depths, liveIn, grantBit, build, held, inOrder, factsOf, guarded, created, deleted, allowed, allowedSet, withdrawn, flatUnit, freshImage, checkYes}
+use Rattle.layouts.specs.Layouts.{Layout, lists, rows, grantBytes, liveIn, grantBit, build, held, inOrder, factsOf, guarded, created, deleted, allowed, allowedSet, flatUnit, freshImage, checkYes}
 use Rattle.bits.proofs.Sets.{iff, fst, snd, both, or-left, or-right, by-cases, find, any-cong, any-same, any-kept, any-add, any-swap, any-map}
 use Rattle.bits.proofs.Indexed.{below-intro, below-elim, below-ext}
 use Rattle.bits.specs.Bits.{bit}
 use Rattle.bits.proofs.Members.{all-members}
 use Rattle.bits.proofs.Cells.{image-lt, at-image, image-cong, length-image}
-use Rattle.model.proofs.Commands.{ranged-command}
+use Rattle.model.proofs.Commands.{ranged-command, depth-in, small}
 use Rattle.model.proofs.Invariant.{same-grant, lives-create, lives-delete, to-parts, beyond-none}
 use Rattle.model.specs.Invariant.{ranged, sound, Inv}
 use Rattle.model.specs.declared.Command.{Command}
-use Rattle.model.specs.declared.Command.the-variants.{Create, Delete, Allow, Withdraw, AllowSet}
+use Rattle.model.specs.declared.Command.the-variants.{Create, Delete, Allow, AllowSet}
 use Rattle.model.proofs.Answers.{LoanFree, table-flat}
 use Rattle.model.proofs.AllowSet.{answered-table, any-granted, live-granted}
-use Rattle.layouts.specs.Laws.{Laws, placed, imageOf}
-
--- ---- tools
-pub depth-in : (d : ℕ) → leb d 7 ≡ true → any (eqb d) depths ≡ true
-unfolding any
-depth-in zero h = refl
-depth-in (suc zero) h = refl
-depth-in (suc (suc zero)) h = refl
-depth-in (suc (suc (suc zero))) h = refl
-depth-in (suc (suc (suc (suc zero)))) h = refl
-depth-in (suc (suc (suc (suc (suc zero))))) h = refl
-depth-in (suc (suc (suc (suc (suc (suc zero)))))) h = refl
-depth-in (suc (suc (suc (suc (suc (suc (suc zero))))))) h = refl
-depth-in (suc (suc (suc (suc (suc (suc (suc (suc d)))))))) h =
-    absurd (omega (arith, leb-true (suc (suc (suc (suc (suc (suc (suc (suc d)))))))) 7 h))
-
-pub small : all (λ (d : ℕ). leb d 7) depths ≡ true
-unfolding all
-small = refl
+use Rattle.layouts.specs.Laws.{Laws, Whole, placed, imageOf}
 
 module _ (L : Layout) (W : Laws L) where
   -- ---- an image that is built
@@ -214,17 +196,6 @@ module _ (L : Layout) (W : Laws L) where
       ∙ ap (λ b. b || placed L j k) (sym (any-map (λ g. eqb (L .place g) k) (λ i. grant i on right depth) (membersOf set)))
       ∙ sym (any-granted (λ g. eqb (L .place g) k) gs j))
 
-  pub withdrawn-of : (j : Journal) → Inv j → (by to on right : ℕ)
-      → withdrawn L (imageOf L j) to on right ≡ imageOf L (apply j (Withdraw by to on right))
-  unfolding imageOf
-  withdrawn-of j v by to on right =
-      build-cong _ _ _ _ (λ i h. live-of j i h)
-      (λ k h. ap (λ b. b && not (eqb (L .person k) to && eqb (L .item k) on && eqb (L .right k) right)) (bit-at-of j k h)
-      ∙ sym (any-kept (λ g. eqb (L .place g) k) (λ g. not (isTo to on right g)) (sound (lives j)) _ (j .grants) (v .grants-sound)
-      (λ g s q. let rg : ranged g ≡ true = fst (ranged g) _ s in
-      let z : L .place g ≡ k = eqb-true _ _ q in
-      rw (← z, W .person-of g rg, W .item-of g rg, W .right-of g rg))))
-
   -- an image tells of live items and grants alone
   pub same-image : (j k : Journal) → j .live ≡ k .live → j .grants ≡ k .grants → imageOf L j ≡ imageOf L k
   unfolding imageOf
@@ -237,6 +208,17 @@ module _ (L : Layout) (W : Laws L) where
       or-false : (b : Bool) → b ≡ b || false
       or-false true = refl
       or-false false = refl
+
+-- whom and what a place is about is within the limits
+pub places-within : (L : Layout) (H : Whole L) (k : ℕ) → k < L .size → (leb (L .person k) 63 ≡ true) × (leb (L .item k) 63 ≡ true)
+places-within L H k h =
+    let g = H .grant-at k in
+    let r : ranged (H .grant-at k) ≡ true = H .ranged-at k h in
+    let p : L .person k ≡ H .grant-at k .person = ap (L .person) (sym (H .place-at k h)) ∙ H .laws .person-of (H .grant-at k) r in
+    let i : L .item k ≡ H .grant-at k .item = ap (L .item) (sym (H .place-at k h)) ∙ H .laws .item-of (H .grant-at k) r in
+    let a : leb (H .grant-at k .person) 63 ≡ true = search (fst, snd) in
+    let b : leb (H .grant-at k .item) 63 ≡ true = search (fst, snd) in
+    (rw p a, rw i b)
 
 -- ---- the three layouts
 ranged-le : (g : Grant) → ranged g ≡ true → (g .person ≤ 63) × (g .item ≤ 63) × (g .right ≤ 7) × (g .depth ≤ 7)

@@ -1,4 +1,5 @@
 pub mod Layouts
+pub mod Drops
 pub mod Edits
 pub mod SetEdits
 pub mod Masks

@@ -9,7 +9,8 @@ use lib.Dec.{eqb, leb}
 use Rattle.bits.specs.Sets.{any}
 use Rattle.bits.specs.Bits.{bit}
 use Rattle.model.specs.Journal.{Grant, Journal, grant, sameGrant, lives}
-use Rattle.layouts.specs.Layouts.{Layout, lists, rows, grantBytes, depths, grantBit, held}
+use Rattle.model.specs.Commands.{depths}
+use Rattle.layouts.specs.Layouts.{Layout, lists, rows, grantBytes, grantBit, held}
 use Rattle.layouts.specs.Subjects.{subjectsOf, isSubject}
 use Rattle.bits.proofs.Sets.{iff, fst, snd, both, find, any-same, any-mono, found, eqb-self}
 use Rattle.bits.proofs.Indexed.{some-intro, some-elim}
@@ -17,7 +18,8 @@ use Rattle.bits.proofs.Bits.{bit-ofBits}
 use Rattle.model.specs.Invariant.{ranged, sound, Inv}
 use Rattle.model.proofs.Invariant.{same-grant}
 use Rattle.layouts.specs.Laws.{Laws, imageOf, Flat, Whole}
-use Rattle.layouts.proofs.Layouts.{depth-in, small, bit-at-of, bytes-laws}
+use Rattle.model.proofs.Commands.{depth-in, small}
+use Rattle.layouts.proofs.Layouts.{bit-at-of, bytes-laws}
 use Rattle.layouts.proofs.Edits.{in-range, lists-flat, rows-flat}
 use Rattle.layouts.proofs.Convert.{about}
 

@@ -14,10 +14,10 @@ use Rattle.model.specs.declared.Facts.{Facts}
 use Rattle.model.specs.declared.Checked.{Checked}
 use Rattle.model.specs.declared.Answer.{Answer}
 use Rattle.bits.specs.Sets.{any, all, allBelow}
-use Rattle.model.specs.Commands.{membersOf}
+use Rattle.model.specs.Commands.{membersOf, depths}
 use Rattle.model.specs.Answers.{asked, Numbered, checkedOf, flat, _when_else_}
 use Rattle.layouts.specs.Machine.{Machine, guardedBy}
-use Rattle.model.specs.Journal.{Grant, grant}
+use Rattle.model.specs.Journal.{Grant, grant, ofEachDepth}
 use Rattle.bits.specs.Cells.{at, image}
 
 -- where an image has the bit of each grant
@@ -81,10 +81,6 @@ grantBytes = record {
   right = λ k. k / 512 % 8;
 }
 
--- 'Depths are 0 to 7'
-abbrev pub depths : List ℕ
-depths = 0 ∷ 1 ∷ 2 ∷ 3 ∷ 4 ∷ 5 ∷ 6 ∷ 7 ∷ []
-
 module _ (L : Layout) where
   -- item i lives
   abbrev pub liveIn : List ℕ → ℕ → Bool
@@ -139,9 +135,19 @@ module _ (L : Layout) where
   abbrev pub allowedSet : List ℕ → ℕ → ℕ → ℕ → ℕ → List ℕ
   allowedSet s set o r d = build (liveIn s) (λ k. any (λ p. eqb (L .place (grant p o r d)) k) (membersOf set) || grantBit s k)
 
-  -- without p's grants on o, right r, at any depth
-  abbrev pub withdrawn : List ℕ → ℕ → ℕ → ℕ → List ℕ
-  withdrawn s p o r = build (liveIn s) (λ k. grantBit s k && not (eqb (L .person k) p && eqb (L .item k) o && eqb (L .right k) r))
+  -- without grant g: a drop
+  abbrev pub dropped : List ℕ → Grant → List ℕ
+  dropped s g = build (liveIn s) (λ k. grantBit s k && not (eqb (L .place g) k))
+
+  -- the same of several grants, one after the other
+  abbrev pub droppedAll : List ℕ → List Grant → List ℕ
+  droppedAll s [] = s
+  droppedAll s (g ∷ gs) = droppedAll (dropped s g) gs
+
+  -- 'withdraw is eight drops .. done as one': without p's grants on o, right r, of each depth. In lists and rows they have one place; that
+  -- every place about p, o and r is cleared, and no other, is `withdrawn-places`
+  unfoldable pub withdrawn : List ℕ → ℕ → ℕ → ℕ → List ℕ
+  withdrawn s p o r = droppedAll s (ofEachDepth p o r)
 
   -- the image after an accepted command
   abbrev pub edited : List ℕ → Arguments → Edit → List ℕ

@@ -58,7 +58,7 @@ verb-begins v ws h = starts-written (bytes "do=") (formOf v .pattern) ws (below 
 -- ---- bytes 5 and 9 of a line tell its verb
 -- the verb by a number below 32, as the code has it: @ for the first, a for the next
 abbrev pub verbs : List ℕ
-verbs = bytes "@@@f@@@e@@@ga@b@@c@@@d@@@@@@h@@@"
+verbs = bytes "@@@g@@@fe@@ha@b@@c@@@d@@@@@@i@@@"
 
 abbrev pub verbAt : List ℕ → ℕ
 verbAt s = getD verbs ((getD s 5 0 + getD s 9 0) % 32) 0 % 32

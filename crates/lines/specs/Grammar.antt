@@ -7,7 +7,7 @@ use Prim.Native.String.{String}
 use Prim.Native.Nat.{ℕ, zero, suc, _^_, _<_}
 use lib.ListN.{length, getD}
 use lib.Dec.{eqb, leb, ltb}
-use Rattle.model.specs.declared.Command.the-variants.{Create, Delete, Allow, AllowSet, Withdraw, Lend, Recall, Shift}
+use Rattle.model.specs.declared.Command.the-variants.{Create, Delete, Allow, AllowSet, Withdraw, Drop, Lend, Recall, Shift}
 use Rattle.lines.specs.declared.Parsed.{Parsed}
 use Rattle.lines.specs.declared.Parsed.the-variants.{Run, Ask, Malformed}
 use Rattle.lines.specs.Bytes.{bytes}
@@ -49,8 +49,9 @@ abbrev pub form : (t : String) → Asks (count (parts (bytes t))) → Form
 form t f = record { pattern = parts (bytes t); asks = f }
 
 -- 'A line is key=value fields in fixed order, one space between': '`do` (create, delete, allow, withdraw, lend, recall, check), then the
--- fields in the order of the journal section; check has who, on, right'; 'lend and recall gain `last` at the end', '`do=shift by now`', and
--- '`allowset` takes by, set .., on, right, depth'. A verb is a place in this list
+-- fields in the order of the journal section; check has who, on, right'; 'lend and recall gain `last` at the end', '`do=shift by now`',
+-- '`allowset` takes by, set .., on, right, depth', and 'withdraw is split: `drop` (by, to, on, right, depth)'. A verb is a place in this
+-- list
 abbrev pub forms : List Form
 forms =
     form "do=create by=# on=#" (λ by on. Run (Create by on)) ∷
@@ -58,6 +59,7 @@ forms =
     form "do=allow by=# to=# on=# right=# depth=#" (λ by to on right depth. Run (Allow by to on right depth)) ∷
     form "do=allowset by=# set=@ on=# right=# depth=#" (λ by set on right depth. Run (AllowSet by set on right depth)) ∷
     form "do=withdraw by=# to=# on=# right=#" (λ by to on right. Run (Withdraw by to on right)) ∷
+    form "do=drop by=# to=# on=# right=# depth=#" (λ by to on right depth. Run (Drop by to on right depth)) ∷
     form "do=lend by=# to=# on=# right=# depth=# last=#" (λ by to on right depth last. Run (Lend by to on right depth last)) ∷
     form "do=recall by=# to=# on=# right=# depth=# last=#" (λ by to on right depth last. Run (Recall by to on right depth last)) ∷
     form "do=shift by=# now=#" (λ by now. Run (Shift by now)) ∷

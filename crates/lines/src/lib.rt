@@ -8,7 +8,7 @@ ghost use mathlib.Core.Path.{_≡_};
 ghost use mathlib.Core.Bool.{true};
 ghost use Prim.Native.Nat.{_-_, _≤_};
 ghost use lib.ListN.{length, drop, getD};
-ghost use Rattle.model.specs.declared.Command.the-variants.{Allow, AllowSet, Withdraw, Lend, Recall};
+ghost use Rattle.model.specs.declared.Command.the-variants.{Allow, AllowSet, Withdraw, Drop, Lend, Recall};
 ghost use Rattle.lines.specs.declared.Parsed.the-variants.{Run, Ask};
 ghost use Rattle.lines.specs.Bytes.{bytes};
 ghost use Rattle.lines.specs.Grammar.{number, set, formOf, meaning, within};
@@ -233,10 +233,11 @@ fn read_by(values: &mut [u64; MOST], s: &[u8], verb: usize) -> bool
         2 => fill(values, s, b"allow", b"btord"),
         3 => fill(values, s, b"allowset", b"bsord"),
         4 => fill(values, s, b"withdraw", b"btor"),
-        5 => fill(values, s, b"lend", b"btordl"),
-        6 => fill(values, s, b"recall", b"btordl"),
-        7 => fill(values, s, b"shift", b"bn"),
-        8 => fill(values, s, b"check", b"wor"),
+        5 => fill(values, s, b"drop", b"btord"),
+        6 => fill(values, s, b"lend", b"btordl"),
+        7 => fill(values, s, b"recall", b"btordl"),
+        8 => fill(values, s, b"shift", b"bn"),
+        9 => fill(values, s, b"check", b"wor"),
         _ => false,
     }
 }
@@ -277,6 +278,18 @@ fn withdraw(by: u32, to: u32, on: u32, right: u32) -> Parsed
     ensures { λ r. ⌜ r ≡ Run (Withdraw by to on right) ⌝ }
 {
     Parsed::Run(Command::Withdraw { by, to, on, right })
+}
+
+fn drop_depth(by: u32, to: u32, on: u32, right: u32, depth: u32) -> Parsed
+    ensures { λ r. ⌜ r ≡ Run (Drop by to on right depth) ⌝ }
+{
+    Parsed::Run(Command::Drop {
+        by,
+        to,
+        on,
+        right,
+        depth,
+    })
 }
 
 fn lend(by: u32, to: u32, on: u32, right: u32, depth: u32, last: u32) -> Parsed
@@ -331,16 +344,17 @@ fn meaning_of(verb: usize, values: &[u64; MOST]) -> Parsed
         2 => allow(a, b, c, d, e),
         3 => allow_set(a, values[1], c, d, e),
         4 => withdraw(a, b, c, d),
-        5 => lend(a, b, c, d, e, f),
-        6 => recall(a, b, c, d, e, f),
-        7 => Parsed::Run(Command::Shift { by: a, now: b }),
-        8 => ask(a, b, c),
+        5 => drop_depth(a, b, c, d, e),
+        6 => lend(a, b, c, d, e, f),
+        7 => recall(a, b, c, d, e, f),
+        8 => Parsed::Run(Command::Shift { by: a, now: b }),
+        9 => ask(a, b, c),
         _ => Parsed::Malformed,
     }
 }
 
 // A verb for each number that two bytes of its line give: @ is the first of the grammar's list, a the next.
-const VERBS: [u8; 32] = *b"@@@f@@@e@@@ga@b@@c@@@d@@@@@@h@@@";
+const VERBS: [u8; 32] = *b"@@@g@@@fe@@ha@b@@c@@@d@@@@@@i@@@";
 
 // The byte at a place, and 0 past the end.
 fn byte(s: &[u8], at: usize) -> u8

@@ -7,19 +7,19 @@ use mathlib.Core.Bool.{Bool, true, false, not, _&&_, _||_, cond, false≢true, a
 use mathlib.Core.List.{List, [], _∷_, map, map-map}
 use Prim.Native.Nat.{ℕ, min}
 use native.Mathlib.Omega.{arith}
-use borrow.Author.Tests.{ne-eqb, le-leb, ltb-true}
+use borrow.Author.Tests.{eqb-true, ne-eqb, le-leb, ltb-true}
 use lib.ListN.{length}
 use lib.Dec.{eqb, leb, ltb}
 use Rattle.bits.specs.Sets.{any, all}
 use Rattle.model.specs.declared.Command.{Command}
-use Rattle.model.specs.declared.Command.the-variants.{Create, Delete, Allow, Withdraw, Lend, Recall, Shift, AllowSet}
+use Rattle.model.specs.declared.Command.the-variants.{Create, Delete, Allow, Withdraw, Lend, Recall, Shift, AllowSet, Drop}
 use Rattle.model.specs.declared.Facts.{Facts}
 use Rattle.model.specs.declared.Arguments.{Arguments}
 use Rattle.model.specs.Commands.{rightDepth, argumentsOf, fits, membersOf, isEmpty}
 use Rattle.model.specs.Answers.{answer, _when_else_}
 use Rattle.model.specs.Journal.{Grant, Journal, grant, sameGrant, isTo, lives, hasGrant, facts, tabled, answered, lowest, granted, grantedAll, step}
 use Rattle.model.specs.AllowSet.{Orders, SameSets, AllowsSet}
-use Rattle.bits.proofs.Sets.{by-cases, fst, snd, both, or-right, all-mono, all-and, all-add, any-map, any-add, all-from, all-at, any-order}
+use Rattle.bits.proofs.Sets.{by-cases, fst, snd, both, or-right, all-mono, all-and, all-add, any-map, any-add, all-from, all-at, any-order, eqb-self}
 use Rattle.bits.proofs.Members.{members-below, members-zero}
 use Rattle.model.proofs.Invariant.{same-grant, passed, accepted, named-live}
 use Rattle.model.proofs.OneByOne.{Singles, one-by-one}
@@ -194,6 +194,7 @@ answered-table j (Withdraw by to on right) = refl
 answered-table j (Lend by to on right depth last) = refl
 answered-table j (Recall by to on right depth last) = refl
 answered-table j (Shift by now) = refl
+answered-table j (Drop by to on right depth) = refl
 answered-table j (AllowSet by set on right depth) =
     by-cases (isEmpty set) (λ h. rw h)
     (λ h. by-cases (fits (argumentsOf (AllowSet by set on right depth)))
@@ -302,7 +303,7 @@ module _ (by on right depth : ℕ) where
             grants =
                 λ g. any-granted (sameGrant g) (map f persons) j
                 ∙ ap (λ b. b || any (sameGrant g) (j .grants))
-                (any-map (sameGrant g) f persons ∙ any-order (λ i. sameGrant g (f i)) persons (membersOf set) o
+                (any-map (sameGrant g) f persons ∙ any-order eqb eqb-true eqb-self (λ i. sameGrant g (f i)) persons (membersOf set) o
                 ∙ sym (any-map (sameGrant g) f (membersOf set)))
                 ∙ sym (any-granted (sameGrant g) (map f (membersOf set)) j);
             loans = loans-granted (map f persons) j ∙ sym (loans-granted (map f (membersOf set)) j);

@@ -10,7 +10,7 @@ use borrow.Author.Tests.{eqb-true, eqb-false, ne-eqb, leb-false, le-leb, lt-leb,
 use lib.Dec.{eqb, leb, ltb}
 use Rattle.bits.specs.Sets.{any, all}
 use Rattle.model.specs.declared.Command.{Command}
-use Rattle.model.specs.declared.Command.the-variants.{Create, Delete, Allow, Withdraw, Lend, Recall, Shift, AllowSet}
+use Rattle.model.specs.declared.Command.the-variants.{Create, Delete, Allow, Withdraw, Lend, Recall, Shift, AllowSet, Drop}
 use Rattle.model.specs.Commands.{argumentsOf, membersOf}
 use Rattle.model.specs.Journal.{Loan, Journal, grant, loan, sameLoan, loanNames, carries, isDated, standingLoan, facts, answered, fresh, apply, step, run, Throughout, isPlain}
 use Rattle.bits.proofs.Sets.{by-cases, fst, snd, or-right, any-same, any-add}
@@ -50,6 +50,7 @@ shift-apply j (Create by on) d e = le-refl (j .shift)
 shift-apply j (Delete by on) d e = le-refl (j .shift)
 shift-apply j (Allow by to on right depth) d e = le-refl (j .shift)
 shift-apply j (Withdraw by to on right) d e = le-refl (j .shift)
+shift-apply j (Drop by to on right depth) d e = le-refl (j .shift)
 shift-apply j (Lend by to on right depth last) d e = le-refl (j .shift)
 shift-apply j (Recall by to on right depth last) d e = le-refl (j .shift)
 shift-apply j (Shift by now) d e =
@@ -93,6 +94,7 @@ plain-apply j (Delete by on) h u =
     record { shift = u .shift; loans = any-less isDated (λ l. not (loanNames on l)) (j .loans) (u .loans) }
 plain-apply j (Allow by to on right depth) h u = record { shift = u .shift; loans = u .loans }
 plain-apply j (Withdraw by to on right) h u = record { shift = u .shift; loans = u .loans }
+plain-apply j (Drop by to on right depth) h u = record { shift = u .shift; loans = u .loans }
 plain-apply j (Lend by to on right depth last) h u =
     record {
       shift = u .shift;

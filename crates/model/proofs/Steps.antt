@@ -1,21 +1,22 @@
 -- Each command, case by case: what the journal keeps. Whoever adds a command adds its clauses here, and in the files of this name of
 -- layouts and delegation, which say what the images do.
-use mathlib.Core.Path.{_≡_, refl, ap, _∙_}
+use mathlib.Core.Path.{_≡_, refl, sym, ap, _∙_}
 use mathlib.Core.Bool.{Bool, true, false, not, _&&_, _||_, cond, false≢true}
 use mathlib.Core.List.{List, [], _∷_, map}
 use Prim.Native.Nat.{ℕ}
 use borrow.Author.Tests.{eqb-true, eq-eqb}
 use lib.Dec.{eqb, leb}
 use Rattle.model.specs.declared.Command.{Command}
-use Rattle.model.specs.declared.Command.the-variants.{Create, Delete, Allow, Withdraw, Lend, Recall, Shift, AllowSet}
+use Rattle.model.specs.declared.Command.the-variants.{Create, Delete, Allow, Withdraw, Lend, Recall, Shift, AllowSet, Drop}
 use Rattle.bits.specs.Sets.{any, all, keep, add}
 use Rattle.model.specs.Commands.{items, rightDepth, argumentsOf, fits, membersOf}
 use Rattle.model.specs.Answers.{flat}
-use Rattle.model.specs.Journal.{Grant, Journal, grant, grantedAll, loan, sameGrant, sameLoan, isTo, names, loanNames, lives, facts, answered, fresh, apply, step, run}
+use Rattle.model.specs.Journal.{Grant, Journal, grant, grantedAll, droppedAll, ofEachDepth, loan, sameGrant, sameLoan, names, loanNames, lives, facts, answered, fresh, apply, step, run, isDrop}
 use Rattle.bits.proofs.Sets.{fst, snd, both, or-left, or-right, all-mono, all-keep, all-add}
 use Rattle.model.proofs.Answers.{LoanFree}
 use Rattle.model.proofs.Commands.{ranged-command}
 use Rattle.model.proofs.AllowSet.{alive, ready, live-granted, loans-granted, shift-granted, all-granted}
+use Rattle.model.proofs.Drop.{ended-inv}
 use Rattle.model.proofs.Invariant.{eqb-sym, neither, accepted, named-live, lives-create, lives-delete, inv-fresh, grow, loans-fresh, keep-loans, few-add, grow-loan, distinct-add}
 use Rattle.model.specs.Invariant.{ranged, sound, Inv, rangedLoan, soundLoan, LoanInv, Kept, Alike}
 
@@ -72,13 +73,8 @@ inv-apply j (Allow by to on right depth) v e =
       grants-sound =
           all-add (sound (lives j)) sameGrant (grant to on right depth) (j .grants) (both r (both (l .1) (l .0))) (v .grants-sound);
     }
-inv-apply j (Withdraw by to on right) v e =
-    record {
-      root = v .root;
-      grants-sound =
-          all-mono _ (sound (lives j)) _ (all-keep (sound (lives j)) (λ g. not (isTo to on right g)) (j .grants) (v .grants-sound))
-          (λ g h. fst (sound (lives j) g) (not (isTo to on right g)) h);
-    }
+inv-apply j (Withdraw by to on right) v e = ended-inv j (ofEachDepth to on right) v
+inv-apply j (Drop by to on right depth) v e = ended-inv j (grant to on right depth ∷ []) v
 inv-apply j (Lend by to on right depth last) v e = record { root = v .root; grants-sound = v .grants-sound }
 inv-apply j (Recall by to on right depth last) v e = record { root = v .root; grants-sound = v .grants-sound }
 inv-apply j (Shift by now) v e = record { root = v .root; grants-sound = v .grants-sound }
@@ -148,6 +144,8 @@ loans-apply j (AllowSet by set on right depth) v e =
     }
 loans-apply j (Withdraw by to on right) v e =
     record { loans-sound = v .loans-sound; loans-distinct = v .loans-distinct; loans-few = v .loans-few; shift-in = v .shift-in }
+loans-apply j (Drop by to on right depth) v e =
+    record { loans-sound = v .loans-sound; loans-distinct = v .loans-distinct; loans-few = v .loans-few; shift-in = v .shift-in }
 loans-apply j (Lend by to on right depth last) v e =
     let k = accepted (facts j (argumentsOf (Lend by to on right depth last))) (argumentsOf (Lend by to on right depth last)) e in
     let l = named-live (lives j on) (lives j to) _ (k .named) in
@@ -206,20 +204,27 @@ flat-lends (Lend by to on right depth last) h = absurd (false≢true h)
 flat-lends (Recall by to on right depth last) h = record { back = refl; past = refl; full = refl }
 flat-lends (Shift by now) h = absurd (false≢true h)
 flat-lends (AllowSet by set on right depth) h = record { back = refl; past = refl; full = refl }
+flat-lends (Drop by to on right depth) h = absurd (false≢true h)
 
 -- the same grants added to both
 alike-granted : (gs : List Grant) {j k : Journal} → Alike j k → Alike (grantedAll j gs) (grantedAll k gs)
 alike-granted [] a = a
 alike-granted (g ∷ gs) a = alike-granted gs (record { live = a .live; grants = ap (add sameGrant g) (a .grants) })
 
--- what lists and rows lack leaves both alone
-pub alike-apply : {j k : Journal} → Alike j k → (c : Command) → Alike (apply j c) (cond (flat c) (apply k c) k)
-alike-apply a (Create by on) = record { live = ap (add eqb on) (a .live); grants = ap (add sameGrant (grant by on 0 0)) (a .grants) }
-alike-apply a (Delete by on) =
+-- the same grants taken from both
+alike-dropped : (gs : List Grant) {j k : Journal} → Alike j k → Alike (droppedAll j gs) (droppedAll k gs)
+alike-dropped [] a = a
+alike-dropped (g ∷ gs) a = alike-dropped gs (record { live = a .live; grants = ap (keep (λ h. not (sameGrant g h))) (a .grants) })
+
+-- what lists and rows lack leaves both alone, but for drop
+pub alike-apply : {j k : Journal} → Alike j k → (c : Command) → isDrop c ≡ false → Alike (apply j c) (cond (flat c) (apply k c) k)
+alike-apply a (Create by on) h = record { live = ap (add eqb on) (a .live); grants = ap (add sameGrant (grant by on 0 0)) (a .grants) }
+alike-apply a (Delete by on) h =
     record { live = ap (keep (λ i. not (eqb i on))) (a .live); grants = ap (keep (λ g. not (names on g))) (a .grants) }
-alike-apply a (Allow by to on right depth) = record { live = a .live; grants = ap (add sameGrant (grant to on right depth)) (a .grants) }
-alike-apply a (Withdraw by to on right) = record { live = a .live; grants = ap (keep (λ g. not (isTo to on right g))) (a .grants) }
-alike-apply a (Lend by to on right depth last) = record { live = a .live; grants = a .grants }
-alike-apply a (Recall by to on right depth last) = record { live = a .live; grants = a .grants }
-alike-apply a (Shift by now) = record { live = a .live; grants = a .grants }
-alike-apply a (AllowSet by set on right depth) = alike-granted (map (λ i. grant i on right depth) (membersOf set)) a
+alike-apply a (Allow by to on right depth) h = record { live = a .live; grants = ap (add sameGrant (grant to on right depth)) (a .grants) }
+alike-apply a (Withdraw by to on right) h = alike-dropped (ofEachDepth to on right) a
+alike-apply a (Lend by to on right depth last) h = record { live = a .live; grants = a .grants }
+alike-apply a (Recall by to on right depth last) h = record { live = a .live; grants = a .grants }
+alike-apply a (Shift by now) h = record { live = a .live; grants = a .grants }
+alike-apply a (AllowSet by set on right depth) h = alike-granted (map (λ i. grant i on right depth) (membersOf set)) a
+alike-apply a (Drop by to on right depth) h = absurd (false≢true (sym h))

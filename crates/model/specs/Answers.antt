@@ -122,6 +122,8 @@ knows verb.Lend n = eqb n 5 || eqb n 9 || eqb n 13 || eqb n 10
 knows verb.Recall n = eqb n 5
 knows verb.Shift n = eqb n 8 || eqb n 12
 knows verb.AllowSet n = eqb n 14 || eqb n 5 || eqb n 8
+-- 'drop has withdraw's refusals'
+knows verb.Drop n = eqb n 5 || eqb n 8
 
 -- 'Each has the first four commands', and of allowset 'all units .. have it': lists and rows are called for what changes every image alike
 abbrev pub flatEdit : Edit → Bool

@@ -2,13 +2,13 @@
 -- their limits.
 -- The commands are the enum `Command` of src/; its numbers are any numbers here.
 use mathlib.Core.Bool.{Bool, _&&_, cond}
-use mathlib.Core.List.{List}
+use mathlib.Core.List.{List, [], _∷_}
 use Prim.Native.Nat.{ℕ, _≤_}
 use lib.Dec.{eqb, leb}
 use lib.ListN.{length}
 use Rattle.bits.specs.Bits.{members}
 use Rattle.model.specs.declared.Command.{Command}
-use Rattle.model.specs.declared.Command.the-variants.{Create, Delete, Allow, Withdraw, Lend, Recall, Shift, AllowSet}
+use Rattle.model.specs.declared.Command.the-variants.{Create, Delete, Allow, Withdraw, Lend, Recall, Shift, AllowSet, Drop}
 use Rattle.model.specs.declared.Verb.{Verb}
 use Rattle.model.specs.declared.Verb.the-variants as verb
 use Rattle.model.specs.declared.Edit.{Edit}
@@ -46,6 +46,8 @@ argumentsOf (Recall by to on right depth last) = arguments verb.Recall edit.Noth
 argumentsOf (Shift by now) = arguments verb.Shift edit.Nothing by 0 0 0 0 now 0
 -- '`allowset` takes by, set .., on, right, depth'
 argumentsOf (AllowSet by set on right depth) = arguments verb.AllowSet edit.AllowSet by on on right depth 0 set
+-- '`drop` (by, to, on, right, depth)': a depth of the grants of a chain unit, which lists and rows do not have
+argumentsOf (Drop by to on right depth) = arguments verb.Drop edit.Nothing by to on right depth 0 0
 
 -- 'a 64-bit number, .. bit i for item i': the members of a set, rising
 abbrev pub membersOf : ℕ → List ℕ
@@ -63,6 +65,10 @@ items i k = leb i 63 && leb k 63
 -- 'Rights are 0 to 7 .. Depths are 0 to 7': one of each
 abbrev pub rightDepth : ℕ → ℕ → Bool
 rightDepth r d = leb r 7 && leb d 7
+
+-- 'Depths are 0 to 7': all of them
+abbrev pub depths : List ℕ
+depths = 0 ∷ 1 ∷ 2 ∷ 3 ∷ 4 ∷ 5 ∷ 6 ∷ 7 ∷ []
 
 -- 'Number 3 also covers a shift above 255'
 abbrev pub shifts : ℕ → Bool

@@ -8,11 +8,11 @@ use Prim.Native.Nat.{ℕ, min}
 use lib.ListN.{length}
 use lib.Dec.{eqb, leb, ltb}
 use Rattle.model.specs.declared.Command.{Command}
-use Rattle.model.specs.declared.Command.the-variants.{Create, Delete, Allow, Withdraw, Lend, Recall, Shift, AllowSet}
+use Rattle.model.specs.declared.Command.the-variants.{Create, Delete, Allow, Withdraw, Lend, Recall, Shift, AllowSet, Drop}
 use Rattle.model.specs.declared.Arguments.{Arguments}
 use Rattle.model.specs.declared.Facts.{Facts}
 use Rattle.bits.specs.Sets.{any, all, keep, add}
-use Rattle.model.specs.Commands.{argumentsOf, fits, membersOf, isEmpty, mostLoans}
+use Rattle.model.specs.Commands.{argumentsOf, fits, membersOf, isEmpty, depths, mostLoans}
 use Rattle.model.specs.Answers.{answer, _when_else_}
 
 -- 'a set of grants (person, item, right, depth)'
@@ -138,6 +138,7 @@ answered j (Withdraw by to on right) = tabled j (Withdraw by to on right)
 answered j (Lend by to on right depth last) = tabled j (Lend by to on right depth last)
 answered j (Recall by to on right depth last) = tabled j (Recall by to on right depth last)
 answered j (Shift by now) = tabled j (Shift by now)
+answered j (Drop by to on right depth) = tabled j (Drop by to on right depth)
 answered j (AllowSet by set on right depth) =
     3 when not (fits (argumentsOf (AllowSet by set on right depth))) else
     14 when isEmpty set else
@@ -156,6 +157,19 @@ abbrev pub grantedAll : Journal → List Grant → Journal
 grantedAll j [] = j
 grantedAll j (g ∷ gs) = grantedAll (granted j g) gs
 
+-- 'ends one grant'; one that does not stand ends nothing
+abbrev pub dropped : Journal → Grant → Journal
+dropped j g = record { live = j .live; grants = keep (λ h. not (sameGrant g h)) (j .grants); loans = j .loans; shift = j .shift }
+
+-- the same of several grants, one after the other
+abbrev pub droppedAll : Journal → List Grant → Journal
+droppedAll j [] = j
+droppedAll j (g ∷ gs) = droppedAll (dropped j g) gs
+
+-- the grants to p on o, right r, of each depth
+abbrev pub ofEachDepth : ℕ → ℕ → ℕ → List Grant
+ofEachDepth p o r = map (λ d. grant p o r d) depths
+
 -- what an accepted command does
 abbrev pub apply : Journal → Command → Journal
 -- 'on lives; grant (by, on, 0, 0)'
@@ -171,9 +185,9 @@ apply j (Delete by on) =
     }
 -- 'that grant stands. An equal one already standing changes nothing'
 apply j (Allow by to on right depth) = granted j (grant to on right depth)
--- 'every depth granted to that person there ends .. Loans stay'
-apply j (Withdraw by to on right) =
-    record { live = j .live; grants = keep (λ g. not (isTo to on right g)) (j .grants); loans = j .loans; shift = j .shift }
+-- 'withdraw is eight drops, checked once before the first and done as one': what they leave is document 01's 'every depth granted to that
+-- person there ends .. Loans stay' (`withdraw-grants`)
+apply j (Withdraw by to on right) = droppedAll j (ofEachDepth to on right)
 -- 'that loan stands, also where the lender holds nothing yet'
 apply j (Lend by to on right depth last) =
     record { live = j .live; grants = j .grants; loans = add sameLoan (loan by on right to depth last) (j .loans); shift = j .shift }
@@ -190,6 +204,8 @@ apply j (Shift by now) = record { live = j .live; grants = j .grants; loans = j 
 -- 'It does what the single allows do in any order': here in the rising order of the members; any other leaves the same sets
 -- (`journal-allowset`)
 apply j (AllowSet by set on right depth) = grantedAll j (map (λ to. grant to on right depth) (membersOf set))
+-- '`drop` .. ends one grant'
+apply j (Drop by to on right depth) = dropped j (grant to on right depth)
 
 -- 'a refused command changes nothing in it'
 abbrev pub step : Journal → Command → Journal
@@ -215,3 +231,16 @@ isPlain (Lend by to on right depth last) = eqb last 0
 isPlain (Recall by to on right depth last) = eqb last 0
 isPlain (Shift by now) = false
 isPlain (AllowSet by set on right depth) = true
+isPlain (Drop by to on right depth) = true
+
+-- a drop: 'Lists and rows pass it over and are held to the journal only on lists without drop'
+abbrev pub isDrop : Command → Bool
+isDrop (Create by on) = false
+isDrop (Delete by on) = false
+isDrop (Allow by to on right depth) = false
+isDrop (Withdraw by to on right) = false
+isDrop (Lend by to on right depth last) = false
+isDrop (Recall by to on right depth last) = false
+isDrop (Shift by now) = false
+isDrop (AllowSet by set on right depth) = false
+isDrop (Drop by to on right depth) = true

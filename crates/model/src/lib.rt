@@ -223,6 +223,13 @@ pub enum Command {
         right: u32,
         depth: u32,
     },
+    Drop {
+        by: u32,
+        to: u32,
+        on: u32,
+        right: u32,
+        depth: u32,
+    },
 }
 
 // What a command says to do.
@@ -235,6 +242,7 @@ pub enum Verb {
     Recall,
     Shift,
     AllowSet,
+    Drop,
 }
 
 // What a command changes in lists, rows and the grants of a chain unit alike.
@@ -424,6 +432,7 @@ impl Verb {
             Verb::Recall => n == 5,
             Verb::Shift => (n == 8) | (n == 12),
             Verb::AllowSet => (n == 14) | (n == 5) | (n == 8),
+            Verb::Drop => (n == 5) | (n == 8),
         }
     }
 }
@@ -575,6 +584,13 @@ impl Command {
                 right,
                 depth,
             } => Arguments::of_set(by, set, on, right, depth),
+            Command::Drop {
+                by,
+                to,
+                on,
+                right,
+                depth,
+            } => Arguments::of(Verb::Drop, Edit::Nothing, by, to, on, right, depth, 0),
         }
     }
 

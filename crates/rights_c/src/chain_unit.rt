@@ -1,6 +1,6 @@
 // The chain unit for C.
 use crate::reply;
-ghost use Rattle.model.specs.declared.Command.the-variants.{Create, Delete, Allow, Withdraw, Lend, Recall, Shift, AllowSet};
+ghost use Rattle.model.specs.declared.Command.the-variants.{Create, Delete, Allow, Withdraw, Lend, Recall, Shift, AllowSet, Drop};
 ghost use Rattle.delegation.specs.Images.{images};
 ghost use Rattle.delegation.specs.ChainUnit.{chainUnit};
 ghost use Rattle.rights_c.specs.Exports.{Gives, ChainFreshens, ChainAnswers, ChainInspects};
@@ -89,6 +89,23 @@ pub extern "C" fn rights_chains_withdraw(
         (images (now (grants .exit)) (now (loans .exit))) ⌝ }
 {
     let a = chains::withdraw(grants, loans, by, to, on, right);
+    a.number()
+}
+
+#[no_mangle]
+pub extern "C" fn rights_chains_drop(
+    grants: &mut [u8],
+    loans: &mut [u32],
+    by: u32,
+    to: u32,
+    on: u32,
+    right: u32,
+    depth: u32,
+) -> u32
+    ensures { λ r. ⌜ Gives chainUnit (images (now (grants .entry)) (now (loans .entry))) (Drop by to on right depth) r
+        (images (now (grants .exit)) (now (loans .exit))) ⌝ }
+{
+    let a = chains::drop(grants, loans, by, to, on, right, depth);
     a.number()
 }
 

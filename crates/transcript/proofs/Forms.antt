@@ -1,12 +1,13 @@
 -- Every line of the output has one of the forms that document 01 shows.
-use mathlib.Core.Path.{_≡_, refl, sym, ap, _∙_, subst}
+use mathlib.Core.Path.{_≡_, refl, sym, subst}
 use mathlib.Core.Bool.{Bool, true, false, cond}
 use mathlib.Core.List.{List, [], _∷_, _++_}
 use Prim.Native.Nat.{ℕ, _+_}
 use lib.ListN.{length, length-map}
 use lib.Seq.{take-length}
+use Rattle.model.specs.declared.Command.{Command}
 use Rattle.model.specs.Answers.{asked, flat}
-use Rattle.model.specs.Journal.{Journal, answered, step, hasGrant}
+use Rattle.model.specs.Journal.{Journal, answered, hasGrant}
 use Rattle.model.specs.Chain.{granted, lent, JournalChain}
 use Rattle.lines.specs.declared.Parsed.{Parsed}
 use Rattle.lines.specs.declared.Parsed.the-variants.{Run, Ask, Malformed}
@@ -16,14 +17,14 @@ use Rattle.lines.specs.Collect.{linesOf, parsedOf}
 use Rattle.output.specs.Output.{saidText, persons, tailText, outputLine, reply, offeredSaid}
 use Rattle.transcript.specs.Program.{outputOf}
 use Rattle.transcript.specs.Text as text
-use Rattle.transcript.specs.Text.{grantSaid, commandLine, CheckLine, LineAllowed, journalAfter, Allowed}
+use Rattle.transcript.specs.Text.{grantSaid, CheckLine, LineAllowed, Allowed}
 use Rattle.transcript.specs.Forms.{Form, numbers, passed, refused, no, yes, Formed, last, next}
 use Rattle.transcript.proofs.Text.{text-agreement}
 
-command-form : (n : ℕ) (b : Bool) (a : ℕ) → Form n (outputLine n (reply (offeredSaid b a) (offeredSaid b a) (Number a) Nothing) [])
+command-form : (n : ℕ) (b : Bool) (a m : ℕ) → Form n (outputLine n (reply (offeredSaid b a) (offeredSaid b a) (Number m) Nothing) [])
 unfolding outputLine saidText tailText
-command-form n true a = numbers a
-command-form n false a = passed a
+command-form n true a m = numbers a m
+command-form n false a m = passed m
 
 none-form : (n : ℕ) (b : Bool) → Form n (outputLine n (reply (cond b Yes No) (cond b Yes No) No Dashes) [])
 unfolding outputLine saidText tailText
@@ -58,20 +59,17 @@ check-form {j} {k} {n} {p} {o} {r} (text.found e g) =
     (sym (s .2))
     (found-form n (hasGrant k p o r) (g .depth) (s .0) (s .1))
 
--- where one journal stands for all
-line-form : (j k : Journal) → k ≡ j → (n : ℕ) (x : Parsed) (t : List ℕ) → LineAllowed j k n x t → Form n t
-line-form j k q n (Run c) t e = subst (Form n) (sym (e ∙ ap (λ i. commandLine j i n c) q)) (command-form n (flat c) (answered j c))
-line-form j k q n (Ask who on right) t e = check-form e
-line-form j k q n Malformed t e = subst (Form n) (sym e) (command-form n true 11)
+line-form : (j k : Journal) (n : ℕ) (x : Parsed) (t : List ℕ) → LineAllowed j k n x t → Form n t
+line-form j k n (Run c) t e = subst (Form n) (sym e) (command-form n (flat c) (answered k c) (answered j c))
+line-form j k n (Ask who on right) t e = check-form e
+line-form j k n Malformed t e = subst (Form n) (sym e) (command-form n true 11 11)
 
-after-same : (j k : Journal) (x : Parsed) → k ≡ j → journalAfter step k x ≡ journalAfter step j x
-after-same j k x q = ap (λ i. journalAfter step i x) q
-
-formed : {j k : Journal} {n : ℕ} {xs : List Parsed} {t : List ℕ} → k ≡ j → Allowed step j k n xs t → Formed n (length xs) t
-formed q text.last = last
-formed {j} {k} {n} q (text.next {x = x} t a rest) = next t (line-form j k q (n + 1) x t a) (formed (after-same j k x q) rest)
+formed : {feed : Journal → Command → Journal} {j k : Journal} {n : ℕ} {xs : List Parsed} {t : List ℕ} → Allowed feed j k n xs t
+    → Formed n (length xs) t
+formed text.last = last
+formed {j = j} {k} {n} (text.next {x = x} t a rest) = next t (line-form j k (n + 1) x t a) (formed rest)
 
 -- one line of output for each line of input, and the last
 pub output-formed : (input : List ℕ) → Formed 0 (length (linesOf input)) (outputOf input)
 output-formed input =
-    subst (λ (k : ℕ). Formed 0 k (outputOf input)) (length-map (linesOf input) parsedOf) (formed refl (text-agreement input))
+    subst (λ (k : ℕ). Formed 0 k (outputOf input)) (length-map (linesOf input) parsedOf) (formed (text-agreement input .every))

@@ -1,9 +1,10 @@
--- Document 01's listing, with document 02's `last`: what its lines ask for; lines with a set; and lines that are malformed. By computation.
+-- Document 01's listing, with document 02's `last`: what its lines ask for; lines with a set; lines of drop; and lines that are malformed.
+-- By computation.
 use mathlib.Core.Path.{_≡_, refl}
 use Prim.Native.Nat.{ℕ}
 use mathlib.Core.List.{List, [], _∷_, _++_}
 use Rattle.bits.specs.Sets.{all}
-use Rattle.model.specs.declared.Command.the-variants.{Create, Allow, Withdraw, Lend, Shift, AllowSet}
+use Rattle.model.specs.declared.Command.the-variants.{Create, Allow, Withdraw, Lend, Shift, AllowSet, Drop}
 use Rattle.lines.specs.declared.Parsed.the-variants.{Run, Ask, Malformed}
 use Rattle.lines.specs.Bytes.{bytes}
 use Rattle.lines.specs.Show.{shown}
@@ -58,6 +59,24 @@ pub malformed-sets :
     ≡ Malformed ∷ Malformed ∷ Malformed ∷ Malformed ∷ Malformed ∷ []
 unfolding linesFrom parseLine orElse meaning readBy andThen numberAt decimal setOf all
 malformed-sets = refl
+
+-- drops; and malformed ones: without depth, a field too many, on before to, depth before right, a leading zero, upper case, a set,
+-- another word
+pub drop-lines :
+    asksOf (bytes "do=drop by=0 to=3 on=9 right=1 depth=2\n"
+    ++ bytes "do=drop by=1 to=2 on=3 right=4 depth=4294967295\n")
+    ≡ Run (Drop 0 3 9 1 2) ∷ Run (Drop 1 2 3 4 4294967295) ∷ []
+unfolding linesFrom parseLine orElse meaning readBy andThen numberAt decimal
+drop-lines = refl
+
+pub malformed-drops :
+    asksOf (bytes "do=drop by=0 to=3 on=9 right=1\ndo=drop by=0 to=3 on=9 right=1 depth=2 last=0\n"
+    ++ bytes "do=drop by=0 on=9 to=3 right=1 depth=2\ndo=drop by=0 to=3 on=9 depth=2 right=1\n"
+    ++ bytes "do=drop by=0 to=3 on=9 right=1 depth=02\ndo=Drop by=0 to=3 on=9 right=1 depth=2\n"
+    ++ bytes "do=drop by=0 set=000000000000000f on=9 right=1 depth=2\ndo=drops by=0 to=3 on=9 right=1 depth=2\n")
+    ≡ Malformed ∷ Malformed ∷ Malformed ∷ Malformed ∷ Malformed ∷ Malformed ∷ Malformed ∷ Malformed ∷ []
+unfolding linesFrom parseLine orElse meaning readBy andThen numberAt decimal
+malformed-drops = refl
 
 -- 'Empty input gives `lines=0`'
 pub empty-output : outputOf [] ≡ bytes "lines=0\n"

@@ -89,7 +89,7 @@ plain-yesno true = unfold plain all in refl
 plain-yesno false = unfold plain all in refl
 
 form-body : {n : ℕ} {t : List ℕ} → Form n t → Body t
-form-body {n} (numbers a) = line-body n _ _ _ _ (plain-shown a) (plain-shown a) (plain-shown a) plain-none
+form-body {n} (numbers a b) = line-body n _ _ _ _ (plain-shown a) (plain-shown a) (plain-shown b) plain-none
 form-body {n} (passed a) = line-body n _ _ _ _ plain-dash plain-dash (plain-shown a) plain-none
 form-body {n} (refused a) = line-body n _ _ _ _ (plain-shown a) (plain-shown a) (plain-shown a) plain-dashes
 form-body {n} (no b) = line-body n _ _ _ _ (plain-yesno b) (plain-yesno b) (plain-yesno false) plain-dashes

@@ -16,7 +16,7 @@ use Rattle.model.specs.Chain.{Meets, JournalChain}
 use Rattle.delegation.specs.ChainUnit.{chainFound, chainBuffer}
 use Rattle.agreement.specs.Agreement.{Units, freshUnits, Agrees, Answers, Follows, flatStep}
 use Rattle.bits.proofs.Sets.{by-cases}
-use Rattle.agreement.proofs.Agreement.{agreement, own-agreement}
+use Rattle.agreement.proofs.Agreement.{agreement}
 use Rattle.lines.specs.declared.Parsed.{Parsed}
 use Rattle.lines.specs.declared.Parsed.the-variants.{Run, Ask, Malformed}
 use Rattle.output.specs.declared.reply.Said.{Said}
@@ -26,14 +26,7 @@ use Rattle.output.specs.declared.reply.Tail.the-variants.{Nothing, Dashes, Chai
 use Rattle.output.specs.declared.reply.Reply.{Reply}
 use Rattle.output.specs.Output.{tailText, outputLine, reply, offeredSaid, checkSaid, checkTail, lentBuffer}
 use Rattle.transcript.specs.Program.{replyOf, viaOf, unitsAfter, outputFrom, asksOf, outputOf}
-use Rattle.transcript.specs.Text.{grantSaid, commandLine, CheckLine, refused, none, found, Allowed, last, next}
-
--- the commands among what is asked
-commandsOf : List Parsed → List Command
-commandsOf [] = []
-commandsOf (Run c ∷ xs) = c ∷ commandsOf xs
-commandsOf (Ask who on right ∷ xs) = commandsOf xs
-commandsOf (Malformed ∷ xs) = commandsOf xs
+use Rattle.transcript.specs.Text.{grantSaid, commandLine, CheckLine, refused, none, found, Allowed, last, next, commandsOf, TextAgreement}
 
 first-agrees : (feed : Journal → Command → Journal) (cs : List Command) (j k : Journal) (u : Units) → Follows feed j k u cs → Agrees j k u
 first-agrees feed [] j k u h = h
@@ -118,19 +111,19 @@ module _ (j k : Journal) (n p o r : ℕ) where
 -- ---- all lines
 allowed : (feed : Journal → Command → Journal) (xs : List Parsed) (j k : Journal) (u : Units) (n : ℕ) → Follows feed j k u (commandsOf xs)
     → Allowed feed j k n xs (outputFrom n u xs)
-unfolding commandsOf outputFrom unitsAfter
+unfolding outputFrom unitsAfter
 allowed feed [] j k u n h = last
 allowed feed (Run c ∷ xs) j k u n h = next _ (command-line j k u (n + 1) c (h .1)) (allowed feed xs _ _ _ (n + 1) (h .2))
 allowed feed (Ask who on right ∷ xs) j k u n h =
     next _ (check-line j k (n + 1) who on right u (first-agrees feed (commandsOf xs) j k u h)) (allowed feed xs j k u (n + 1) h)
 allowed feed (Malformed ∷ xs) j k u n h = next _ (malformed-line u (n + 1)) (allowed feed xs j k u (n + 1) h)
 
--- for every input, the output is one that the journal allows
-pub text-agreement : (input : List ℕ) → Allowed step fresh fresh 0 (asksOf input) (outputOf input)
+-- for every input
+pub text-agreement : (input : List ℕ) → TextAgreement (asksOf input) (outputOf input)
 unfolding outputOf
-text-agreement input = allowed step (asksOf input) fresh fresh freshUnits 0 (agreement (commandsOf (asksOf input)))
-
--- and one that the journal allows with, for lists and rows, a journal of the commands that they have
-pub own-text-agreement : (input : List ℕ) → Allowed flatStep fresh fresh 0 (asksOf input) (outputOf input)
-unfolding outputOf
-own-text-agreement input = allowed flatStep (asksOf input) fresh fresh freshUnits 0 (own-agreement (commandsOf (asksOf input)))
+text-agreement input =
+    let a = agreement (commandsOf (asksOf input)) in
+    record {
+      every = allowed flatStep (asksOf input) fresh fresh freshUnits 0 (a .every);
+      dropless = λ n. allowed step (asksOf input) fresh fresh freshUnits 0 (a .dropless n);
+    }

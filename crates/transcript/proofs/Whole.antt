@@ -23,7 +23,7 @@ use Rattle.lines.specs.Bytes.{bytes}
 use Rattle.lines.specs.Show.{shown}
 use Rattle.output.specs.Output.{outputLine, saidText, tailText, persons, morePersons, newline, lastOutput, reply}
 use Rattle.transcript.specs.Program.{outputOf}
-use Rattle.transcript.specs.Text.{commandLine, CheckLine, refused, none, found, Allowed, last, next}
+use Rattle.transcript.specs.Text.{commandLine, CheckLine, refused, none, found, Allowed, last, next, TextAgreement}
 use Rattle.transcript.proofs.Text.{text-agreement}
 use Rattle.transcript.proofs.Listing.{listing-input, listing-asks}
 
@@ -150,7 +150,7 @@ pub listing-output :
 unfolding lent-journal fresh carries any all keep add tabulate members bit
     outputLine saidText tailText persons morePersons newline lastOutput shown
 listing-output =
-    let h = subst (λ xs. Allowed step fresh fresh 0 xs (outputOf listing-input)) listing-asks (text-agreement listing-input) in
+    let h = subst (λ xs. TextAgreement xs (outputOf listing-input)) listing-asks (text-agreement listing-input) .dropless refl in
     let n1 = next-command h in
     let n2 = next-command (n1 .then) in
     let n3 = next-command (n2 .then) in

@@ -11,9 +11,10 @@ abbrev pub yesNo : Bool → List ℕ
 yesNo b = cond b (bytes "yes") (bytes "no")
 
 -- line n: as in 'list=0 row=0 chain=0', 'list=- row=- chain=0', 'list=3 row=3 chain=3 depth=- via=-',
--- 'list=no row=no chain=no depth=- via=-' and 'list=no row=no chain=yes depth=0 via=3,4'
+-- 'list=no row=no chain=no depth=- via=-' and 'list=no row=no chain=yes depth=0 via=3,4'. List and row never differ; the chain unit's
+-- number may, after a drop
 pub data Form (n : ℕ) : List ℕ → Type 0 where
-  numbers : (a : ℕ) → Form n (lineText n (shown a) (shown a) (shown a) [])
+  numbers : (a b : ℕ) → Form n (lineText n (shown a) (shown a) (shown b) [])
   passed : (a : ℕ) → Form n (lineText n (bytes "-") (bytes "-") (shown a) [])
   refused : (a : ℕ) → Form n (lineText n (shown a) (shown a) (shown a) dashes)
   no : (b : Bool) → Form n (lineText n (yesNo b) (yesNo b) (bytes "no") dashes)

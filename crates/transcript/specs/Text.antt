@@ -1,14 +1,16 @@
 -- Demand 3 at the text interface: the output that the journal allows. No unit is named here. As in `Follows`, lists and rows are held
--- to a journal k and the chain unit to a journal j; where one journal is meant for all, both are it.
+-- to a journal k and the chain unit to a journal j; where one journal is meant for all, both are it. The theorem is `text-agreement`.
 use mathlib.Core.Path.{_≡_}
-use mathlib.Core.Bool.{cond}
+use mathlib.Core.Bool.{false, cond}
 use mathlib.Core.List.{List, [], _∷_, _++_}
 use Prim.Native.Nat.{ℕ, _+_}
 use lib.ListN.{length}
+use Rattle.bits.specs.Sets.{any}
 use Rattle.model.specs.declared.Command.{Command}
 use Rattle.model.specs.Answers.{asked, flat}
-use Rattle.model.specs.Journal.{Journal, answered, step, hasGrant}
+use Rattle.model.specs.Journal.{Journal, answered, fresh, step, hasGrant, isDrop}
 use Rattle.model.specs.Chain.{Greatest, JournalChain}
+use Rattle.agreement.specs.Agreement.{flatStep}
 use Rattle.lines.specs.declared.Parsed.{Parsed}
 use Rattle.lines.specs.declared.Parsed.the-variants.{Run, Ask, Malformed}
 use Rattle.output.specs.declared.reply.Said.{Said}
@@ -58,3 +60,18 @@ pub data Allowed (feed : Journal → Command → Journal) : Journal → Journal 
   last : {j k : Journal} {n : ℕ} → Allowed feed j k n [] (lastOutput n)
   next : {j k : Journal} {n : ℕ} {x : Parsed} {xs : List Parsed} {rest : List ℕ} → (text : List ℕ) → LineAllowed j k (n + 1) x text
       → Allowed feed (journalAfter step j x) (journalAfter feed k x) (n + 1) xs rest → Allowed feed j k n (x ∷ xs) (text ++ rest)
+
+-- the commands among what is asked
+abbrev pub commandsOf : List Parsed → List Command
+commandsOf [] = []
+commandsOf (Run c ∷ xs) = c ∷ commandsOf xs
+commandsOf (Ask who on right ∷ xs) = commandsOf xs
+commandsOf (Malformed ∷ xs) = commandsOf xs
+
+-- demand 3 at the text, from fresh units on: the output for lines that ask for xs
+pub record TextAgreement (xs : List Parsed) (output : List ℕ) : Type 0 where
+  -- whatever the lines ask for, each `chain=` shows what the journal says, and each `list=` and `row=` what a journal says that is fed only
+  -- the commands that lists and rows have
+  pub every : Allowed flatStep fresh fresh 0 xs output
+  -- without a drop line all three show what the one journal says
+  pub dropless : any isDrop (commandsOf xs) ≡ false → Allowed step fresh fresh 0 xs output

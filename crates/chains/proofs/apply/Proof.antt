@@ -68,6 +68,12 @@ enum-told-8 c = search needs
 put-grants-requires : tie.Need-put-grants-requires
 put-grants-requires c κs = search needs
 
+enum-told-9 : tie.Need-enum-told-9
+enum-told-9 c = search needs
+
+drop-grant-requires : tie.Need-drop-grant-requires
+drop-grant-requires c κs = search needs
+
 same-length : tie.Need-same-length
 same-length c = search needs
 
@@ -154,6 +160,16 @@ returns-8 c =
     (c .before .before .before .before .enum-told8 .given .1)
     (ap (λ g. images g (start .args .loans .now)) (c .before .before .put-grants .ensures))
 
+same-length-10 : tie.Need-same-length-10
+same-length-10 c = search needs
+
+returns-9 : tie.Need-returns-9
+returns-9 c =
+    let start = c .before .before .before .before .before .before .before .before in
+    arm (images (start .args .grants .now) (start .args .loans .now)) _ (rawOf (start .args .t)) _
+    (c .before .before .before .before .enum-told9 .given .1)
+    (ap (λ g. images g (start .args .loans .now)) (c .before .before .drop-grant .ensures))
+
 pub apply-spec : {M : Type 1} → statement M
 apply-spec =
     tie.close
@@ -176,6 +192,8 @@ apply-spec =
     set-shift-requires
     enum-told-8
     put-grants-requires
+    enum-told-9
+    drop-grant-requires
     same-length
     returns
     same-length-2
@@ -192,4 +210,6 @@ apply-spec =
     same-length-8
     returns-7
     same-length-9
-    returns-8)
+    returns-8
+    same-length-10
+    returns-9)

@@ -56,6 +56,9 @@ allow-set-requires c κs = search needs
 withdraw-requires : tie.Need-withdraw-requires
 withdraw-requires c κs = search needs
 
+drop-depth-requires : tie.Need-drop-depth-requires
+drop-depth-requires c κs = search needs
+
 lend-requires : tie.Need-lend-requires
 lend-requires c κs = search needs
 
@@ -88,25 +91,30 @@ returns-5 c =
 
 returns-6 : tie.Need-returns-6
 returns-6 c =
-    c .lend .ensures
+    c .drop-depth .ensures
     ∙ narrow-meaning 5 _ (c .before .match .keys6) (c .before .before .before .before .before .before .before .before .pre)
 
 returns-7 : tie.Need-returns-7
 returns-7 c =
-    c .recall .ensures
+    c .lend .ensures
     ∙ narrow-meaning 6 _ (c .before .match .keys7) (c .before .before .before .before .before .before .before .before .pre)
 
 returns-8 : tie.Need-returns-8
-returns-8 c = narrow-meaning 7 _ (c .match .keys8) (c .before .before .before .before .before .before .before .pre)
+returns-8 c =
+    c .recall .ensures
+    ∙ narrow-meaning 7 _ (c .before .match .keys8) (c .before .before .before .before .before .before .before .before .pre)
 
 returns-9 : tie.Need-returns-9
-returns-9 c =
-    c .ask .ensures
-    ∙ narrow-meaning 8 _ (c .before .match .keys9) (c .before .before .before .before .before .before .before .before .pre)
+returns-9 c = narrow-meaning 8 _ (c .match .keys9) (c .before .before .before .before .before .before .before .pre)
 
 returns-10 : tie.Need-returns-10
+returns-10 c =
+    c .ask .ensures
+    ∙ narrow-meaning 9 _ (c .before .match .keys10) (c .before .before .before .before .before .before .before .before .pre)
+
+returns-11 : tie.Need-returns-11
 unfolding meaning
-returns-10 c = rw (past _ (c .match .rest)) refl
+returns-11 c = rw (past _ (c .match .rest)) refl
 
 pub meaning-of-spec : {M : Type 1} → statement M
 meaning-of-spec =
@@ -128,6 +136,7 @@ meaning-of-spec =
     element-copy-out-allow-set
     allow-set-requires
     withdraw-requires
+    drop-depth-requires
     lend-requires
     recall-requires
     ask-requires
@@ -140,4 +149,5 @@ meaning-of-spec =
     returns-7
     returns-8
     returns-9
-    returns-10)
+    returns-10
+    returns-11)

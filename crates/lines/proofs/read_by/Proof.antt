@@ -85,6 +85,15 @@ slice-aggregate-fill-18 c = search needs
 fill-requires-9 : tie.Need-fill-requires-9
 fill-requires-9 c κs = search needs
 
+slice-aggregate-fill-19 : tie.Need-slice-aggregate-fill-19
+slice-aggregate-fill-19 c = search needs
+
+slice-aggregate-fill-20 : tie.Need-slice-aggregate-fill-20
+slice-aggregate-fill-20 c = search needs
+
+fill-requires-10 : tie.Need-fill-requires-10
+fill-requires-10 c κs = search needs
+
 returns : tie.Need-returns
 returns c = rw (c .before .before .before .before .match .keys1) (c .fill .ensures)
 
@@ -113,7 +122,10 @@ returns-9 : tie.Need-returns-9
 returns-9 c = rw (c .before .before .before .before .match .keys9) (c .fill9 .ensures)
 
 returns-10 : tie.Need-returns-10
-returns-10 c = past-not _ _ _ (c .match .rest) (c .before .before .pre .1)
+returns-10 c = rw (c .before .before .before .before .match .keys10) (c .fill10 .ensures)
+
+returns-11 : tie.Need-returns-11
+returns-11 c = past-not _ _ _ (c .match .rest) (c .before .before .pre .1)
 
 pub read-by-spec : {M : Type 1} → statement M
 read-by-spec =
@@ -146,6 +158,9 @@ read-by-spec =
     slice-aggregate-fill-17
     slice-aggregate-fill-18
     fill-requires-9
+    slice-aggregate-fill-19
+    slice-aggregate-fill-20
+    fill-requires-10
     returns
     returns-2
     returns-3
@@ -155,4 +170,5 @@ read-by-spec =
     returns-7
     returns-8
     returns-9
-    returns-10)
+    returns-10
+    returns-11)

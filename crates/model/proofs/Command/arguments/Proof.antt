@@ -53,6 +53,12 @@ enum-known-self-8 c = search needs
 of-set-requires : tie.Need-of-set-requires
 of-set-requires c κs = search needs
 
+enum-known-self-9 : tie.Need-enum-known-self-9
+enum-known-self-9 c = search needs
+
+of-requires-4 : tie.Need-of-requires-4
+of-requires-4 c κs = search needs
+
 returns : tie.Need-returns
 returns c = c .of-item .ensures ∙ sym (ap argumentsOf (c .before .before .self .given .1))
 
@@ -77,6 +83,9 @@ returns-7 c = c .of-shift .ensures ∙ sym (ap argumentsOf (c .before .before .s
 returns-8 : tie.Need-returns-8
 returns-8 c = c .of-set .ensures ∙ sym (ap argumentsOf (c .before .before .self8 .given .1))
 
+returns-9 : tie.Need-returns-9
+returns-9 c = c .of4 .ensures ∙ sym (ap argumentsOf (c .before .before .self9 .given .1))
+
 pub arguments-spec : {M : Type 1} → statement M
 arguments-spec =
     tie.close
@@ -97,6 +106,8 @@ arguments-spec =
     of-shift-requires
     enum-known-self-8
     of-set-requires
+    enum-known-self-9
+    of-requires-4
     returns
     returns-2
     returns-3
@@ -104,4 +115,5 @@ arguments-spec =
     returns-5
     returns-6
     returns-7
-    returns-8)
+    returns-8
+    returns-9)
