@@ -8,8 +8,8 @@ pub use rights::{
 
 pub const NO_PERSON: u8 = rights::NO_PERSON as u8;
 
-/// The arguments of allow, lend and recall; withdraw leaves the depth aside, and allow_set, which has a set of persons,
-/// leaves `to` aside. Every loan is open-ended.
+/// The arguments of allow, drop, lend and recall; withdraw leaves the depth aside, and allow_set, which has a set of
+/// persons, leaves `to` aside. Every loan is open-ended.
 #[derive(Clone, Copy, Debug)]
 pub struct Grant {
     pub by: u32,
@@ -62,6 +62,7 @@ pub struct Chains {
     pub allow: fn(&mut [u8], &mut [u32], Grant) -> u32,
     pub allow_set: fn(&mut [u8], &mut [u32], u64, Grant) -> u32,
     pub withdraw: fn(&mut [u8], &mut [u32], Grant) -> u32,
+    pub drop: fn(&mut [u8], &mut [u32], Grant) -> u32,
     pub lend: fn(&mut [u8], &mut [u32], Grant) -> u32,
     pub recall: fn(&mut [u8], &mut [u32], Grant) -> u32,
     pub check: fn(&[u8], &[u32], Question, &mut [u8]) -> Found,

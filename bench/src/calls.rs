@@ -121,6 +121,10 @@ fn grant_cases(loans: u32) -> Vec<ChainCase> {
             let allowed = (u.allow)(&mut s.grants, &mut s.loans, GRANT);
             u64::from(allowed + 16 * (u.withdraw)(&mut s.grants, &mut s.loans, GRANT))
         }),
+        case("allow + drop", 2, |u, s| {
+            let allowed = (u.allow)(&mut s.grants, &mut s.loans, GRANT);
+            u64::from(allowed + 16 * (u.drop)(&mut s.grants, &mut s.loans, GRANT))
+        }),
         case("allow, refused with 8", 1, |u, s| {
             u64::from((u.allow)(&mut s.grants, &mut s.loans, Grant { by: 6, ..GRANT }))
         }),
@@ -197,8 +201,9 @@ pub fn checks() -> Vec<Line> {
     cases.into_iter().map(|case| run(case, &ENGINE.chains, &PLAIN.chains)).collect()
 }
 
-/// The single allows of the members against one allow_set, both by the engine. Before the timing: both leave the same.
-fn set_line<S: Clone + PartialEq>(
+/// Single commands one after another against one that does the same at once, both by the engine. Before the timing: both
+/// leave the same.
+fn at_once_line<S: Clone + PartialEq>(
     name: String,
     mut state: S,
     at_once: fn(&mut S) -> u32,
@@ -222,22 +227,59 @@ fn chain_set_line(loans: u32) -> Line {
     let (name, state) = (format!("chain unit, {} loans", written(loans)), ChainState::without_63(loans));
     let at_once = |s: &mut ChainState| (ENGINE.chains.allow_set)(&mut s.grants, &mut s.loans, FORTY, GRANT);
     let each = |s: &mut ChainState| each_of_forty(|grant| (ENGINE.chains.allow)(&mut s.grants, &mut s.loans, grant));
-    set_line(name, state, at_once, each)
+    at_once_line(name, state, at_once, each)
 }
 
 /// 40 allows against one allow_set of 40 members.
 pub fn sets() -> Vec<Line> {
-    let lists = set_line(
+    let lists = at_once_line(
         "lists".to_string(),
         home(&PLAIN.lists, LISTS_WORDS),
         |s| (ENGINE.lists.allow_set)(s, FORTY, GRANT),
         |s| each_of_forty(|grant| (ENGINE.lists.allow)(s, grant)),
     );
-    let rows = set_line(
+    let rows = at_once_line(
         "rows".to_string(),
         home(&PLAIN.rows, ROWS_BYTES),
         |s| (ENGINE.rows.allow_set)(s, FORTY, GRANT),
         |s| each_of_forty(|grant| (ENGINE.rows.allow)(s, grant)),
     );
     vec![lists, rows, chain_set_line(0), chain_set_line(1024)]
+}
+
+type ChainStep = fn(&mut ChainState) -> u32;
+
+/// Drop against another call by the engine, both accepted and repeated on what they leave.
+fn drop_line(name: &str, loans: u32, other: ChainStep) -> Line {
+    let mut state = ChainState::without_63(loans);
+    let drop = black_box::<ChainStep>(|s| (ENGINE.chains.drop)(&mut s.grants, &mut s.loans, GRANT));
+    let other = black_box(other);
+    assert_eq!((other(&mut state), drop(&mut state)), (DONE, DONE), "{name}: refused");
+    let times = compare(&mut state, 1, |s| u64::from(drop(s)), |s| u64::from(other(s)));
+    Line { name: format!("{name}, {} loans", written(loans)), times }
+}
+
+/// One drop against one withdraw and one allow.
+pub fn drops() -> Vec<Line> {
+    let withdraw: ChainStep = |s| (ENGINE.chains.withdraw)(&mut s.grants, &mut s.loans, GRANT);
+    let allow: ChainStep = |s| (ENGINE.chains.allow)(&mut s.grants, &mut s.loans, GRANT);
+    let of_both = |loans| [drop_line("withdraw", loans, withdraw), drop_line("allow", loans, allow)];
+    [0, 1024].into_iter().flat_map(of_both).collect()
+}
+
+/// Eight drops against the withdraw that they are; the person has three of the depths.
+fn withdraw_line(loans: u32) -> Line {
+    let mut state = ChainState::without_63(loans);
+    for depth in [0, 3, 7] {
+        assert_eq!((PLAIN.chains.allow)(&mut state.grants, &mut state.loans, Grant { depth, ..GRANT }), DONE);
+    }
+    let at_once = |s: &mut ChainState| (ENGINE.chains.withdraw)(&mut s.grants, &mut s.loans, GRANT);
+    let each = |s: &mut ChainState| {
+        (0..8).map(|depth| (ENGINE.chains.drop)(&mut s.grants, &mut s.loans, Grant { depth, ..GRANT })).sum()
+    };
+    at_once_line(format!("chain unit, {} loans", written(loans)), state, at_once, each)
+}
+
+pub fn withdraws() -> Vec<Line> {
+    vec![withdraw_line(0), withdraw_line(1024)]
 }

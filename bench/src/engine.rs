@@ -32,6 +32,7 @@ const CHAINS: Chains = Chains {
     allow: |grants, loans, g| chains::allow(grants, loans, g.by, g.to, g.on, g.right, g.depth),
     allow_set: |grants, loans, set, g| chains::allow_set(grants, loans, g.by, set, g.on, g.right, g.depth),
     withdraw: |grants, loans, g| chains::withdraw(grants, loans, g.by, g.to, g.on, g.right),
+    drop: |grants, loans, g| chains::drop(grants, loans, g.by, g.to, g.on, g.right, g.depth),
     lend: |grants, loans, g| chains::lend(grants, loans, g.by, g.to, g.on, g.right, g.depth, 0),
     recall: |grants, loans, g| chains::recall(grants, loans, g.by, g.to, g.on, g.right, g.depth, 0),
     check: |grants, loans, q, chain| {

@@ -7,9 +7,9 @@ use crate::state::{fresh_flat, is_chain, ChainState, Pair, Seeded};
 
 const CALLS: u32 = 20_000;
 
-/// Create, delete, allow, withdraw, recall, lend and allow_set by number; those that build come more often than those
-/// that end.
-const DRAWN: [u32; 18] = [0, 0, 0, 1, 2, 2, 2, 2, 3, 4, 5, 5, 5, 5, 5, 5, 6, 6];
+/// Create, delete, allow, withdraw, recall, lend, allow_set and drop by number; those that build come more often than
+/// those that end.
+const DRAWN: [u32; 19] = [0, 0, 0, 1, 2, 2, 2, 2, 3, 4, 5, 5, 5, 5, 5, 5, 6, 6, 7];
 
 /// Few items, so that commands meet; now and then a number beyond the limits.
 fn number(seeded: &mut Seeded, limit: u32) -> u32 {
@@ -45,7 +45,7 @@ struct Call {
     set: u64,
 }
 
-/// One command to a unit of one image; lend and recall are passed over.
+/// One command to a unit of one image; lend, recall and drop are passed over.
 fn flat_call<C>(unit: &Flat<C>, image: &mut [C], Call { command, g, set }: Call) -> u32 {
     match command {
         0 => (unit.create)(image, g.by, g.on),
@@ -66,6 +66,7 @@ fn chain_call(unit: &Chains, s: &mut ChainState, Call { command, g, set }: Call)
         3 => (unit.withdraw)(grants, loans, g),
         4 => (unit.recall)(grants, loans, g),
         6 => (unit.allow_set)(grants, loans, set, g),
+        7 => (unit.drop)(grants, loans, g),
         _ => (unit.lend)(grants, loans, g),
     }
 }

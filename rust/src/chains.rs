@@ -268,9 +268,52 @@ impl Chains {
     }
 
     /// Ends the grants of the right on the item to `to`, at every depth. Loans stay.
+    ///
+    /// It is [`drop_grant`](Self::drop_grant) for each of the eight depths, judged once before the
+    /// first: `by` may end all of its own edit grants with it.
     pub fn withdraw(&mut self, by: Item, to: Item, on: Item, right: Right) -> Result<(), Refusal> {
         let (grants, loans) = (&mut self.grants, &mut self.loans);
         answer(lent::chains::withdraw(grants, loans, by.0, to.0, on.0, right.0))
+    }
+
+    /// Ends just that grant of `to`, if it stands: the command `drop`. Grants at other depths stay,
+    /// and so do loans.
+    ///
+    /// A manager lowers the depth at which a person may lend, and the drawer stays open:
+    ///
+    /// ```
+    /// use rights::{Chains, Depth, Item, Refusal, Right, Shift};
+    ///
+    /// let mut unit = Chains::fresh();
+    /// for item in [3, 4, 9] {
+    ///     unit.create(Item(0), Item(item))?;
+    /// }
+    /// for depth in [0, 3, 7] {
+    ///     unit.allow(Item(0), Item(3), Item(9), Right(1), Depth(depth))?;
+    /// }
+    /// unit.lend(Item(3), Item(4), Item(9), Right(1), Depth(7), Shift(0))?;
+    /// assert_eq!(unit.check(Item(3), Item(9), Right(1))?.depth(), Depth(7));
+    /// assert_eq!(unit.check(Item(4), Item(9), Right(1))?.depth(), Depth(6));
+    ///
+    /// unit.drop_grant(Item(0), Item(3), Item(9), Right(1), Depth(7))?;
+    /// assert_eq!(unit.check(Item(3), Item(9), Right(1))?.depth(), Depth(3));
+    /// assert_eq!(unit.check(Item(4), Item(9), Right(1))?.depth(), Depth(2));
+    ///
+    /// unit.drop_grant(Item(0), Item(3), Item(9), Right(1), Depth(3))?;
+    /// assert!(unit.check(Item(3), Item(9), Right(1))?.yes());
+    /// assert!(!unit.check(Item(4), Item(9), Right(1))?.yes());
+    /// # Ok::<(), Refusal>(())
+    /// ```
+    pub fn drop_grant(
+        &mut self,
+        by: Item,
+        to: Item,
+        on: Item,
+        right: Right,
+        depth: Depth,
+    ) -> Result<(), Refusal> {
+        let (grants, loans) = (&mut self.grants, &mut self.loans);
+        answer(lent::chains::drop(grants, loans, by.0, to.0, on.0, right.0, depth.0))
     }
 
     /// Lends the right on the item from `by` to `to` at the depth, also where `by` holds none yet.

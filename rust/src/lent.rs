@@ -217,6 +217,8 @@ pub mod convert {
 /// assert_eq!(chains::shift(&mut grants, &mut loans, 0, 2), rights::SHIFT_BACK);
 /// assert_eq!(chains::recall(&mut grants, &mut loans, 0, 9, 9, 1, 0, 2), 0);
 /// assert_eq!(loans[0], 3 << 16);
+/// assert_eq!(chains::drop(&mut grants, &mut loans, 0, 9, 9, 1, 3), 0);
+/// assert_eq!(grants[8 + 512 * 9 + 64..][..10], [1 << 3, 0, 0, 0, 0, 0, 0, 0, 0, 0]);
 /// loans[0] = 1;
 /// assert_eq!(chains::inspect(&grants, &loans), rights::NOT_IN_ORDER);
 /// ```
@@ -290,6 +292,10 @@ pub mod chains {
     lend_command!(
         /// withdraw (by, to, on, right).
         withdraw, rights_chains_withdraw, by: u32, to: u32, on: u32, right: u32
+    );
+    lend_command!(
+        /// drop (by, to, on, right, depth).
+        drop, rights_chains_drop, by: u32, to: u32, on: u32, right: u32, depth: u32
     );
     lend_command!(
         /// lend (by, to, on, right, depth, last); `last` 0 is a loan that is open-ended.

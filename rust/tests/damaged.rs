@@ -6,6 +6,7 @@ mod engine;
 mod every_call;
 mod generator;
 mod guarded;
+mod images;
 mod judge;
 mod model;
 
@@ -16,7 +17,8 @@ use engine::Flat;
 use every_call::{ChainImages, FlatImage};
 use generator::{seed, Bias, Generator, Random, Trace, BIASES};
 use guarded::{Side, SIDES};
-use model::{image_of, loans_image, Cell, GrantLayout, Journal, Layout, ListLayout, RowLayout};
+use images::Images;
+use model::{image_of, loans_image, Cell, GrantLayout, Journals, Layout, ListLayout, RowLayout};
 
 /// Damaged images by unit and damage, and of them those with numbers 0, 1 and 2.
 #[derive(Default)]
@@ -59,14 +61,14 @@ impl Counts {
 /// A state, the commands and questions that are tried on images of it, and where those lie.
 struct Trial {
     generator: Generator,
-    journal: Journal,
+    journals: Journals,
     side: Side,
 }
 
 impl Trial {
     fn new(seed: u64, bias: Bias) -> Self {
-        let (generator, journal) = (Generator::new(seed, bias), Journal::fresh());
-        Self { generator, journal, side: Side::Front }
+        let (generator, journals) = (Generator::new(seed, bias), Journals::fresh());
+        Self { generator, journals, side: Side::Front }
     }
 
     /// From now on the guard pages are on the other side.
@@ -75,21 +77,21 @@ impl Trial {
         self
     }
 
-    /// The next command of the list, given to the journal.
+    /// The next command of the list, given to the journals.
     fn command(&mut self, step: u32) {
-        let command = self.generator.command(&self.journal, step);
-        self.journal.give(command);
+        let command = self.generator.command(&self.journals, step);
+        self.journals.give(command);
     }
 
     /// Every call on one image; the number that it is refused with.
     fn flat<U: Flat>(&mut self, cells: &[U::Cell]) -> u32 {
         let image = FlatImage::<U> { cells, side: self.side };
-        image.try_all(&mut self.generator, &self.journal)
+        image.try_all(&mut self.generator, &self.journals.flat)
     }
 
     fn chains(&mut self, grants: &[u8], loans: &[u32]) -> u32 {
         let images = ChainImages { grants, loans, side: self.side };
-        images.try_all(&mut self.generator, &self.journal)
+        images.try_all(&mut self.generator, &self.journals.chains)
     }
 
     /// Damaged images of the state.
@@ -106,34 +108,35 @@ impl Trial {
     /// Images in which nothing is wrong but that item 0 is dead: no grant and no loan names it.
     fn root_unnamed(&mut self, counts: &mut Counts) {
         let damage = "root item dead and not named";
-        let mut rootless = self.journal.clone();
-        rootless.delete(0);
-        counts.add("lists", damage, self.flat::<ListLayout>(&image_of::<ListLayout>(&rootless)));
-        counts.add("rows", damage, self.flat::<RowLayout>(&image_of::<RowLayout>(&rootless)));
-        let (grants, loans) = (image_of::<GrantLayout>(&rootless), loans_image(&rootless));
+        let Journals { mut flat, mut chains } = self.journals.clone();
+        flat.delete(0);
+        chains.delete(0);
+        counts.add("lists", damage, self.flat::<ListLayout>(&image_of::<ListLayout>(&flat)));
+        counts.add("rows", damage, self.flat::<RowLayout>(&image_of::<RowLayout>(&flat)));
+        let (grants, loans) = (image_of::<GrantLayout>(&chains), loans_image(&chains));
         counts.add("grants of chains", damage, self.chains(&grants, &loans));
     }
 
     fn damage_flat<U: Flat>(&mut self, counts: &mut Counts) {
         let (name, apply) = self.generator.random.pick(&grant_damages::<U>());
-        let mut image = image_of::<U>(&self.journal);
-        apply(&mut self.generator.random, &self.journal, &mut image);
+        let mut image = image_of::<U>(&self.journals.flat);
+        apply(&mut self.generator.random, &self.journals.flat, &mut image);
         counts.add(U::NAME, name, self.flat::<U>(&image));
     }
 
     fn damage_grants(&mut self, counts: &mut Counts) {
         let (name, apply) = self.generator.random.pick(&grant_damages::<GrantLayout>());
-        let mut grants = image_of::<GrantLayout>(&self.journal);
-        apply(&mut self.generator.random, &self.journal, &mut grants);
-        let loans = loans_image(&self.journal);
+        let journal = &self.journals.chains;
+        let (mut grants, loans) = (image_of::<GrantLayout>(journal), loans_image(journal));
+        apply(&mut self.generator.random, journal, &mut grants);
         counts.add("grants of chains", name, self.chains(&grants, &loans));
     }
 
     fn damage_loans(&mut self, counts: &mut Counts) {
         let (name, apply) = self.generator.random.pick(&LOAN_DAMAGES);
-        let mut loans = loans_image(&self.journal);
-        apply(&mut self.generator.random, &self.journal, &mut loans);
-        let grants = image_of::<GrantLayout>(&self.journal);
+        let journal = &self.journals.chains;
+        let (grants, mut loans) = (image_of::<GrantLayout>(journal), loans_image(journal));
+        apply(&mut self.generator.random, journal, &mut loans);
         counts.add("loans of chains", name, self.chains(&grants, &loans));
     }
 }
@@ -200,7 +203,7 @@ fn resized<C: Cell>(random: &mut Random, image: &[C]) -> Vec<C> {
 #[test]
 fn lengths() {
     let mut trial = some_state();
-    let (grants, loans) = (image_of::<GrantLayout>(&trial.journal), loans_image(&trial.journal));
+    let Images { grants, loans, .. } = Images::of_both(&trial.journals);
     let (no_grants, no_order) = (vec![0; GrantLayout::CELLS], vec![2; 1025]);
     for _ in 0..40 {
         let random = &mut trial.turned().generator.random;
@@ -234,10 +237,9 @@ fn lengths_of<C: Cell>(image: &[C]) -> Vec<Vec<C>> {
 #[test]
 fn lengths_on_both_sides() {
     let mut trial = some_state();
-    let lists = lengths_of(&image_of::<ListLayout>(&trial.journal));
-    let rows = lengths_of(&image_of::<RowLayout>(&trial.journal));
-    let grants = lengths_of(&image_of::<GrantLayout>(&trial.journal));
-    let loans = lengths_of(&loans_image(&trial.journal));
+    let Images { lists, rows, grants, loans } = Images::of_both(&trial.journals);
+    let (lists, rows) = (lengths_of(&lists), lengths_of(&rows));
+    let (grants, loans) = (lengths_of(&grants), lengths_of(&loans));
     for side in SIDES {
         trial.side = side;
         for cells in &lists {
@@ -256,9 +258,7 @@ fn lengths_on_both_sides() {
 /// Right images beside another buffer, of the conversions and of the check, in every length.
 #[test]
 fn other_lengths_on_both_sides() {
-    let Trial { journal, .. } = some_state();
-    let (lists, rows) = (image_of::<ListLayout>(&journal), image_of::<RowLayout>(&journal));
-    let (grants, loans) = (image_of::<GrantLayout>(&journal), loans_image(&journal));
+    let Images { lists, rows, grants, loans } = Images::of_both(&some_state().journals);
     for side in SIDES {
         for target in lengths_of(&rows) {
             FlatImage::<ListLayout> { cells: &lists, side }.try_target(target.len());
@@ -287,9 +287,7 @@ fn long_every_bit() {
     let mut trial = some_state();
     let mut numbers = [0; 3];
     let mut count = |number: u32| numbers[number as usize] += 1;
-    let (lists, rows) =
-        (image_of::<ListLayout>(&trial.journal), image_of::<RowLayout>(&trial.journal));
-    let (grants, loans) = (image_of::<GrantLayout>(&trial.journal), loans_image(&trial.journal));
+    let Images { lists, rows, grants, loans } = Images::of_both(&trial.journals);
     each_bit(&lists, |image| count(trial.turned().flat::<ListLayout>(image)));
     each_bit(&rows, |image| count(trial.turned().flat::<RowLayout>(image)));
     each_bit(&grants, |image| count(trial.turned().chains(image, &loans)));

@@ -1,4 +1,5 @@
-//! Lists, rows and chain unit against the model, command by command.
+//! Lists, rows and chain unit against the model, command by command: the chain unit against the
+//! journal, lists and rows against the journal that is fed only the commands they have.
 
 mod engine;
 mod generator;
@@ -7,11 +8,13 @@ mod judge;
 mod model;
 mod situations;
 
-use engine::{check_chains, Flat};
+use engine::{check_chains, give_chains, Flat};
 use generator::{seed, Bias, Generator, Trace, BIASES};
 use images::Images;
 use judge::{flat_answer, judge_chain};
-use model::{Journal, Layout, ListLayout, RowLayout};
+use model::{
+    image_of, loans_image, Command, GrantLayout, Journal, Journals, Layout, ListLayout, RowLayout,
+};
 use rights::lent;
 use situations::Situations;
 
@@ -39,7 +42,7 @@ impl Counts {
     }
 
     /// Every number of a command, every depth and every length of a chain came up, and every
-    /// situation that shifts and sets of items are about.
+    /// situation that shifts, sets of items and drops are about.
     fn assert_broad(&self) {
         let given = [0, 3, 4, 5, 6, 7, 8, 9, 10, 12, 13, 14];
         assert!(given.iter().all(|&n| self.numbers[n] > 0), "numbers {:?}", self.numbers);
@@ -58,46 +61,76 @@ fn sum(into: &mut [u64], from: &[u64]) {
 /// One list of commands, from fresh units on.
 struct Run {
     generator: Generator,
-    journal: Journal,
+    journals: Journals,
     images: Images,
     expected: Images,
+    /// No drop was accepted.
+    without_drop: bool,
     counts: Counts,
 }
 
 impl Run {
     fn new(seed: u64, bias: Bias) -> Self {
-        let journal = Journal::fresh();
-        let expected = Images::of(&journal);
+        let journals = Journals::fresh();
+        let expected = Images::of_both(&journals);
         let images = Images::fresh();
         images.compare(&expected);
-        let generator = Generator::new(seed, bias);
-        Self { generator, journal, images, expected, counts: Counts::default() }
+        let (generator, counts) = (Generator::new(seed, bias), Counts::default());
+        Self { generator, journals, images, expected, without_drop: true, counts }
     }
 
     fn command(&mut self, step: u32) {
-        let command = self.generator.command(&self.journal, step);
-        let number = self.journal.answer(command);
-        self.counts.situations.command(&self.journal, command, number);
-        assert_eq!(self.journal.give(command), number);
-        if number == 0 {
-            self.expected = Images::of(&self.journal);
+        let command = self.generator.command(&self.journals, step);
+        let numbers = self.journals.answer(command);
+        self.counts.situations.command(&self.journals, command, numbers);
+        let done = numbers.chains == 0;
+        self.without_drop &= !(done && matches!(command, Command::Drop { .. }));
+        let drops = if done { self.drops_of(command) } else { None };
+        assert_eq!(self.journals.give(command), numbers);
+        if done || numbers.flat == Some(0) {
+            self.expected = Images::of_both(&self.journals);
         }
-        self.images.give(command, number);
+        self.images.give_each(command, numbers);
         self.images.compare(&self.expected);
+        if let Some((grants, loans)) = drops {
+            assert!(grants == self.images.grants && loans == self.images.loans, "{command:?}");
+        }
         self.counts.commands += 1;
-        self.counts.numbers[number as usize] += 1;
+        self.counts.numbers[numbers.chains as usize] += 1;
+    }
+
+    /// Gives the eight drops of a withdraw, one after another, to a copy of the chain unit; numbers and
+    /// images are the journal's. The images, where none was refused.
+    fn drops_of(&mut self, command: Command) -> Option<(Vec<u8>, Vec<u32>)> {
+        let Command::Withdraw { to, on, right, .. } = command else {
+            return None;
+        };
+        let mut journal = self.journals.chains.clone();
+        let (mut grants, mut loans) = (self.images.grants.clone(), self.images.loans.clone());
+        let give = |drop| {
+            let number = journal.give(drop);
+            assert_eq!(give_chains(&mut grants, &mut loans, drop), number, "{drop:?}");
+            number
+        };
+        let numbers: Vec<u32> = command.single_drops().into_iter().map(give).collect();
+        let left = (image_of::<GrantLayout>(&journal), loans_image(&journal));
+        assert!((&grants, &loans) == (&left.0, &left.1), "drops of {command:?}");
+        let depths = self.journals.chains.depths(to, on, right).count();
+        self.counts.situations.withdraw(depths, &numbers);
+        Some(left).filter(|_| numbers == [0; 8])
     }
 
     /// Checks of a few questions; no check changes an image.
     fn sample(&mut self) {
         for n in 0..3 {
-            let question = self.generator.question(&self.journal);
+            let journal = &self.journals.chains;
+            let question = self.generator.question(journal);
             let (who, on, right) = question;
             let known = who < 64 && on < 64 && right < 8;
-            let best = if known { self.journal.best(on, right)[who as usize] } else { None };
+            let best = if known { journal.best(on, right)[who as usize] } else { None };
             self.check(question, best);
             if known && n == 0 {
-                self.counts.situations.answer(&self.journal, question);
+                self.counts.situations.answer(&self.journals, question);
             }
         }
         self.images.compare(&self.expected);
@@ -105,7 +138,7 @@ impl Run {
 
     /// The checks of every person on the item and right.
     fn key(&mut self, on: u32, right: u32) {
-        let best = self.journal.best(on, right);
+        let best = self.journals.chains.best(on, right);
         for who in 0..64 {
             self.check((who, on, right), best[who as usize]);
         }
@@ -120,14 +153,14 @@ impl Run {
     }
 
     fn check(&mut self, question: (u32, u32, u32), best: Option<u32>) {
-        let flat = flat_answer(&self.journal, question);
+        let flat = flat_answer(&self.journals.flat, question);
         assert_eq!(ListLayout::check(&self.images.lists, question), flat, "{question:?}");
         assert_eq!(RowLayout::check(&self.images.rows, question), flat, "{question:?}");
         let before = self.generator.random.next().to_le_bytes();
         let mut chain = before;
         let images = &self.images;
         let checked = check_chains(&images.grants, &images.loans, question, &mut chain);
-        judge_chain(&self.journal, question, best, checked, before, chain);
+        judge_chain(&self.journals.chains, question, best, checked, before, chain);
         self.counts.checks += 1;
         if checked.persons > 0 {
             self.counts.depths[checked.depth as usize] += 1;
@@ -135,11 +168,13 @@ impl Run {
         }
     }
 
-    /// Subjects, conversions and in-order of the images as they stand.
+    /// Subjects, conversions and in-order of the images as they stand. Without a drop the journals
+    /// are one.
     fn whole_images(&self) {
-        let images = &self.images;
-        whole_flat::<ListLayout>(&images.lists, &self.expected.rows, &self.journal);
-        whole_flat::<RowLayout>(&images.rows, &self.expected.lists, &self.journal);
+        let (images, flat) = (&self.images, &self.journals.flat);
+        whole_flat::<ListLayout>(&images.lists, &self.expected.rows, flat);
+        whole_flat::<RowLayout>(&images.rows, &self.expected.lists, flat);
+        assert!(!self.without_drop || self.journals.agree(), "journals differ without a drop");
         assert_eq!(lent::chains::inspect(&images.grants, &images.loans), 0);
         images.compare(&self.expected);
     }
@@ -151,7 +186,7 @@ impl Run {
             self.whole_images();
         }
         if step % 128 == 127 {
-            let loan = self.generator.standing(&self.journal);
+            let loan = self.generator.standing(&self.journals.chains);
             self.key(loan.item % 64, loan.right % 8);
         }
     }
@@ -209,7 +244,7 @@ fn short() {
 #[test]
 #[ignore = "takes minutes"]
 fn long() {
-    let counts = lists_of_every_bias(1_000_000, 50);
+    let counts = lists_of_every_bias(840_000, 50);
     counts.assert_broad();
     assert!(counts.commands >= 10_000_000);
 }

@@ -1,5 +1,5 @@
 //! The chain unit's type on the handover examples of document 01, E1 to E13, its loans open-ended,
-//! and on the stories of document 02's requests K1 and K2.
+//! and on the stories of document 02's requests K1 to K3.
 
 use rights::{Chains, Depth, Item, ItemSet, Refusal, Right, Shift};
 
@@ -124,4 +124,31 @@ fn forty_at_once() {
     assert_eq!(unit.allow_set(Item(0), team, ON, RIGHT, Depth(0)), Ok(()));
     assert!(team.iter().all(|member| check(&unit, member.0) == Some((0, vec![member.0]))));
     assert_eq!(open(&unit), [3, 4, 5].into_iter().chain(20..60).collect::<Vec<_>>());
+}
+
+/// K3: "Managers want to lower a person's lending depth without closing the drawer." 3 has the right at
+/// depth 2, and gets it at 0 too. When depth 2 is dropped 3 still opens the drawer and lends to nobody;
+/// the loan stays, and carries again when 3 gets depth 1. Depth 2, dropped once more, is not there.
+#[test]
+fn lower_depth() {
+    let mut unit = base();
+    let at = |depth| (Item(0), Item(3), ON, RIGHT, Depth(depth));
+    let drop_at = |unit: &mut Chains, depth| {
+        let (by, to, on, right, depth) = at(depth);
+        unit.drop_grant(by, to, on, right, depth)
+    };
+    let allow_at = |unit: &mut Chains, depth| {
+        let (by, to, on, right, depth) = at(depth);
+        unit.allow(by, to, on, right, depth)
+    };
+    assert_eq!(allow_at(&mut unit, 0), Ok(()));
+    assert_eq!(check(&unit, 3), Some((2, vec![3])));
+    assert_eq!(drop_at(&mut unit, 2), Ok(()));
+    assert_eq!(check(&unit, 3), Some((0, vec![3])));
+    assert_eq!((check(&unit, 4), check(&unit, 5)), (None, None));
+    assert_eq!(allow_at(&mut unit, 1), Ok(()));
+    assert_eq!((check(&unit, 4), check(&unit, 5)), (Some((0, vec![3, 4])), None));
+    assert_eq!(drop_at(&mut unit, 2), Ok(()));
+    assert_eq!(check(&unit, 3), Some((1, vec![3])));
+    assert_eq!(drop_at(&mut unit, 8), Err(Refusal::OutOfRange));
 }

@@ -7,10 +7,12 @@ mod model;
 use std::collections::BTreeSet;
 
 use generator::Random;
-use model::commands::{allow, allow_set, create, delete, lend, recall, shift, withdraw, BASE};
+use model::commands::{
+    allow, allow_set, create, delete, drop, lend, recall, shift, withdraw, BASE,
+};
 use model::{
     head_of, loan_of, loans_image, loans_in_order, word_of, Command, Ending, Grant, Head, Journal,
-    Loan,
+    Journals, Loan, Numbers,
 };
 
 const ON: u32 = 9;
@@ -263,6 +265,96 @@ fn single_allows() {
     assert!(allows != due);
     assert_eq!(allow_set(1, u64::MAX, 2, 3, 4).single_allows().len(), 64);
     assert_eq!(allow_set(1, 0, 2, 3, 4).single_allows(), []);
+}
+
+/// "drop has withdraw's refusals and 3 for the depth"; "ends one grant"; one that does not stand is no
+/// refusal.
+#[test]
+fn numbers_of_drop() {
+    let mut journal = base();
+    let answer = |by, to, on, depth| journal.answer(drop(by, to, on, RIGHT, depth));
+    assert_eq!([64, 7, 3, 0].map(|by| answer(by, 3, ON, 8)), [3; 4]);
+    assert_eq!([64, 7, 3, 0].map(|by| answer(by, 3, ON, 7)), [3, 4, 8, 0]);
+    assert_eq!([64, 7, 3, 0].map(|by| answer(by, 7, ON, 7)), [3, 4, 5, 5]);
+    assert_eq!([64, 7, 3, 0].map(|by| answer(by, 3, 7, 7)), [3, 4, 5, 5]);
+    assert_eq!((answer(0, 64, ON, 7), answer(0, 3, 64, 7)), (3, 3));
+    assert_eq!(journal.answer(drop(0, 3, ON, 8, 7)), 3);
+    let before = journal.clone();
+    assert_eq!(journal.give(drop(0, 3, ON, RIGHT, 1)), 0);
+    assert_eq!(journal, before);
+    assert_eq!(journal.give(drop(0, 3, ON, RIGHT, 2)), 0);
+    assert_eq!(before.grants.len(), journal.grants.len() + 1);
+    assert_eq!((best(&journal, 3), best(&journal, 5), journal.loans.len()), (None, None, 2));
+}
+
+/// "withdraw is eight drops": in all 40,320 orders they leave what document 01 says of withdraw, that
+/// "every depth granted to that person there ends", and so does the model's withdraw.
+#[test]
+fn withdraw_in_every_order() {
+    let mut before = base();
+    for command in [allow(0, 3, ON, RIGHT, 0), allow(0, 3, ON, RIGHT, 7), allow(0, 4, ON, RIGHT, 7)]
+    {
+        assert_eq!(before.give(command), 0);
+    }
+    let mut left = before.clone();
+    left.grants.retain(|g| (g.person, g.item, g.right) != (3, ON, RIGHT));
+    let mut at_once = before.clone();
+    assert_eq!((at_once.give(withdraw(0, 3, ON, RIGHT)), &at_once), (0, &left));
+    let every = orders(&withdraw(0, 3, ON, RIGHT).single_drops());
+    assert_eq!(every.len(), 40_320);
+    for order in every {
+        let mut one_by_one = before.clone();
+        assert!(order.iter().all(|&drop| one_by_one.give(drop) == 0));
+        assert_eq!(one_by_one, left);
+    }
+}
+
+/// "checked once before the first": 0 withdraws its own edit grant; of the drops, those after depth 0
+/// are refused with 8.
+#[test]
+fn withdraw_checked_once() {
+    let (mut at_once, mut one_by_one) = (base(), base());
+    assert_eq!(at_once.give(withdraw(0, 0, ON, 0)), 0);
+    let numbers: Vec<u32> = (0..8).map(|depth| one_by_one.give(drop(0, 0, ON, 0, depth))).collect();
+    assert_eq!(numbers, [0, 8, 8, 8, 8, 8, 8, 8]);
+    assert_eq!(at_once, one_by_one);
+}
+
+/// The drops that the model does are those of the eight depths, each once, not always rising.
+#[test]
+fn single_drops() {
+    for (to, on) in [(0, 0), (3, 9), (5, 2), (63, 63)] {
+        let drops = withdraw(1, to, on, 3).single_drops();
+        let due: Vec<Command> = (0..8).map(|depth| drop(1, to, on, 3, depth)).collect();
+        assert_eq!(drops.len(), 8);
+        assert!(due.iter().all(|drop| drops.contains(drop)));
+        assert_eq!(drops == due, (to, on) == (0, 0));
+    }
+    assert_eq!(drop(1, 2, 3, 4, 5).single_drops(), []);
+}
+
+/// "Lists and rows pass it over": their journal is the chain unit's until a grant is dropped, and from
+/// then on their numbers may differ.
+#[test]
+fn two_journals() {
+    let mut journals = Journals::fresh();
+    let both = |number| Numbers { chains: number, flat: Some(number) };
+    let chains_alone = |number| Numbers { chains: number, flat: None };
+    for command in BASE {
+        let number = if command.is_flat() { both(0) } else { chains_alone(0) };
+        assert_eq!((journals.answer(command), journals.give(command)), (number, number));
+    }
+    assert!(journals.agree() && journals.flat.loans.is_empty());
+    assert_eq!(journals.give(shift(0, 3)), chains_alone(0));
+    assert_eq!(journals.give(drop(0, 0, ON, 0, 1)), chains_alone(0));
+    assert!(journals.agree() && journals.flat.shift == 0);
+    assert_eq!(journals.give(drop(0, 0, ON, 0, 0)), chains_alone(0));
+    assert!(!journals.agree());
+    assert_eq!(journals.give(allow(0, 3, ON, RIGHT, 8)), both(3));
+    let parted = Numbers { chains: 8, flat: Some(0) };
+    assert_eq!(journals.answer(delete(0, ON)), parted);
+    assert_eq!(journals.give(allow(0, 4, ON, RIGHT, 2)), parted);
+    assert!(journals.flat.granted(4, ON, RIGHT) && !journals.chains.granted(4, ON, RIGHT));
 }
 
 /// The header's sizes and limits are the paper's.

@@ -3,7 +3,7 @@
 
 mod model;
 
-use model::commands::{allow, allow_set, create, delete, lend, recall, shift, withdraw};
+use model::commands::{allow, allow_set, create, delete, drop, lend, recall, shift, withdraw};
 use model::{image_of, loans_image, Command, GrantLayout, Journal, ListLayout, RowLayout};
 use rights::{answer, lent, Chains, Depth, Item, ItemSet, Lists, Refusal, Right, Rows, Shift};
 
@@ -18,7 +18,7 @@ trait Owned {
 
 /// The method of each command that every unit has, and beside it the arms given.
 macro_rules! by_method {
-    ($unit:ident, $command:ident, $($loans:tt)*) => {
+    ($unit:ident, $command:ident, $($others:tt)*) => {
         match $command {
             Command::Create { by, on } => $unit.create(Item(by), Item(on)),
             Command::Delete { by, on } => $unit.delete(Item(by), Item(on)),
@@ -31,7 +31,7 @@ macro_rules! by_method {
             Command::Withdraw { by, to, on, right } => {
                 $unit.withdraw(Item(by), Item(to), Item(on), Right(right))
             }
-            $($loans)*
+            $($others)*
         }
     };
 }
@@ -40,7 +40,7 @@ macro_rules! own_flat {
     ($unit:ident, $layout:ident) => {
         impl Owned for $unit {
             fn give(&mut self, command: Command) -> Result<(), Refusal> {
-                by_method!(self, command, _ => unreachable!("neither loans nor shifts"))
+                by_method!(self, command, _ => unreachable!("neither drops nor loans nor shifts"))
             }
 
             fn assert_says(&self, journal: &Journal) {
@@ -56,6 +56,9 @@ own_flat!(Rows, RowLayout);
 impl Owned for Chains {
     fn give(&mut self, command: Command) -> Result<(), Refusal> {
         by_method!(self, command,
+            Command::Drop { by, to, on, right, depth } => {
+                self.drop_grant(Item(by), Item(to), Item(on), Right(right), Depth(depth))
+            }
             Command::Lend { by, to, on, right, depth, last } => {
                 self.lend(Item(by), Item(to), Item(on), Right(right), Depth(depth), Shift(last))
             }
@@ -234,6 +237,34 @@ mod chains {
         assert_eq!(unit.give(lend(3, 12, 9, 0, 2, 0)), Err(Refusal::EditRight));
         unit.assert_says(&journal);
         give(&mut unit, &mut journal, &[END_OF_GRANT, END_OF_LOAN, GRANT, LOAN, END_OF_ITEM]);
+    }
+
+    /// 12 has right 5 on 9 at depths 1, 2 and 4. Each drop ends its own, and a withdraw what is left;
+    /// the loan stays. Each refusal by its name.
+    #[test]
+    fn drops() {
+        let deeper = [GRANT, allow(3, 12, 9, 5, 4), allow(3, 12, 9, 5, 1), LOAN];
+        let (mut unit, mut journal) = created_and(&deeper);
+        let byte = |unit: &Chains| unit.grants()[8 + 512 * 9 + 64 * 5 + 12];
+        assert_eq!(byte(&unit), 1 << 1 | 1 << 2 | 1 << 4);
+        give(&mut unit, &mut journal, &[drop(3, 12, 9, 5, 4)]);
+        assert_eq!(byte(&unit), 1 << 1 | 1 << 2);
+        give(&mut unit, &mut journal, &[drop(3, 12, 9, 5, 4), drop(3, 12, 9, 5, 1)]);
+        assert_eq!(byte(&unit), 1 << 2);
+        let refused = [
+            (drop(3, 12, 9, 5, 8), Refusal::OutOfRange),
+            (drop(7, 12, 9, 5, 2), Refusal::ByDead),
+            (drop(3, 7, 9, 5, 2), Refusal::NamedDead),
+            (drop(3, 12, 7, 5, 2), Refusal::NamedDead),
+            (drop(12, 3, 9, 0, 0), Refusal::NoEdit),
+        ];
+        for (command, refusal) in refused {
+            assert_eq!(unit.give(command), Err(refusal), "{command:?}");
+            give(&mut unit, &mut journal, &[command]);
+        }
+        give(&mut unit, &mut journal, &[END_OF_GRANT, drop(3, 3, 9, 0, 0)]);
+        assert_eq!((byte(&unit), unit.give(END_OF_ITEM)), (0, Err(Refusal::NoEdit)));
+        assert_eq!(unit.loans()[0], 1);
     }
 
     /// The loan as the paper writes it down, and that a recall ends it and no other.

@@ -290,6 +290,7 @@ static void chains_check(const char *call, uint32_t who, uint32_t depth_due, uin
 }
 
 static const uint8_t through[RIGHTS_CHAIN_PERSONS] = {HOLDER, BORROWER, OWNER, 255, 255, 255, 255, 255};
+static const uint8_t alone[RIGHTS_CHAIN_PERSONS] = {HOLDER, 255, 255, 255, 255, 255, 255, 255};
 static const uint8_t nobody[RIGHTS_CHAIN_PERSONS] = {255, 255, 255, 255, 255, 255, 255, 255};
 
 static void chains_answers(void)
@@ -299,6 +300,101 @@ static void chains_answers(void)
     returned("chains inspect", rights_chains_inspect(UNIT), 0);
     loans[0] = loans_due[0] = 1;
     returned("chains inspect, one loan uncounted", rights_chains_inspect(UNIT), 2);
+    loans[0] = loans_due[0] = 2;
+}
+
+/*
+ * The holder's depth ends and comes back, and with it the chain to the owner; the other depth, an edit grant at depth 4, and the loans
+ * stay.
+ */
+static void chains_drops(void)
+{
+    grants_grant(HOLDER, DRAWER, 0, 4, 1);
+    returned("chains allow, edit", rights_chains_allow(UNIT, OWNER, HOLDER, DRAWER, 0, 4), 0);
+    returned("chains drop, no such depth", rights_chains_drop(UNIT, OWNER, HOLDER, DRAWER, RIGHT, 5), 0);
+    returned("chains drop, no such person", rights_chains_drop(UNIT, OWNER, BORROWER, DRAWER, RIGHT, DEPTH), 0);
+    returned("chains drop, no such right", rights_chains_drop(UNIT, OWNER, HOLDER, DRAWER, 2, DEPTH), 0);
+    grants_grant(HOLDER, DRAWER, RIGHT, DEPTH, 0);
+    returned("chains drop", rights_chains_drop(UNIT, OWNER, HOLDER, DRAWER, RIGHT, DEPTH), 0);
+    chains_check("chains check, after a drop", OWNER, 0, 0, nobody);
+    chains_check("chains check, the other depth", HOLDER, 1, 1, alone);
+    returned("chains drop, again", rights_chains_drop(UNIT, OWNER, HOLDER, DRAWER, RIGHT, DEPTH), 0);
+    grants_grant(HOLDER, DRAWER, RIGHT, 1, 0);
+    returned("chains drop, the last depth", rights_chains_drop(UNIT, OWNER, HOLDER, DRAWER, RIGHT, 1), 0);
+    chains_check("chains check, the drawer closed", HOLDER, 0, 0, nobody);
+    grants_grant(HOLDER, DRAWER, RIGHT, DEPTH, 1);
+    returned("chains allow, again", rights_chains_allow(UNIT, OWNER, HOLDER, DRAWER, RIGHT, DEPTH), 0);
+    grants_grant(HOLDER, DRAWER, RIGHT, 1, 1);
+    returned("chains allow, again", rights_chains_allow(UNIT, OWNER, HOLDER, DRAWER, RIGHT, 1), 0);
+    chains_check("chains check, allowed again", OWNER, 1, 3, through);
+}
+
+/* The owner ends its own last edit grant; the holder ends a depth, gives the grant back, and loses its own. */
+static void chains_dropped_edit(void)
+{
+    grants_grant(OWNER, DRAWER, 0, 0, 0);
+    returned("chains drop, one's own edit", rights_chains_drop(UNIT, OWNER, OWNER, DRAWER, 0, 0), 0);
+    returned("chains drop, without edit", rights_chains_drop(UNIT, OWNER, HOLDER, DRAWER, RIGHT, DEPTH), 8);
+    returned("chains delete, without edit", rights_chains_delete(UNIT, OWNER, DRAWER), 8);
+    grants_grant(BORROWER, DRAWER, SET_RIGHT, 1, 0);
+    returned("chains drop, by an edit at depth 4", rights_chains_drop(UNIT, HOLDER, BORROWER, DRAWER, SET_RIGHT, 1), 0);
+    grants_grant(OWNER, DRAWER, 0, 0, 1);
+    returned("chains allow, edit", rights_chains_allow(UNIT, HOLDER, OWNER, DRAWER, 0, 0), 0);
+    grants_grant(HOLDER, DRAWER, 0, 4, 0);
+    returned("chains drop, another's edit", rights_chains_drop(UNIT, OWNER, HOLDER, DRAWER, 0, 4), 0);
+}
+
+static void chains_allow(unsigned to, unsigned on, unsigned right, unsigned depth)
+{
+    grants_grant(to, on, right, depth, 1);
+    returned("chains allow", rights_chains_allow(UNIT, ROOT, to, on, right, depth), 0);
+}
+
+static void chains_drop(unsigned by, unsigned to, unsigned on, unsigned right, unsigned depth)
+{
+    grants_grant(to, on, right, depth, 0);
+    returned("chains drop", rights_chains_drop(UNIT, by, to, on, right, depth), 0);
+}
+
+/* The greatest item, right and depth and the least, and the last edit grant of an item: nobody may edit it from then on. */
+static void chains_drop_limits(void)
+{
+    chains_create(ROOT, RIGHTS_ITEM_MAX);
+    chains_allow(RIGHTS_ITEM_MAX, RIGHTS_ITEM_MAX, 0, 4);
+    chains_allow(RIGHTS_ITEM_MAX, RIGHTS_ITEM_MAX, RIGHTS_RIGHT_MAX, RIGHTS_DEPTH_MAX);
+    chains_allow(RIGHTS_ITEM_MAX, RIGHTS_ITEM_MAX, RIGHTS_RIGHT_MAX, 0);
+    chains_allow(ROOT, RIGHTS_ITEM_MAX, RIGHTS_RIGHT_MAX, 0);
+    chains_allow(HOLDER, ROOT, SET_RIGHT, DEPTH);
+    chains_allow(DRAWER, HOLDER, SET_RIGHT, DEPTH);
+    chains_drop(RIGHTS_ITEM_MAX, RIGHTS_ITEM_MAX, RIGHTS_ITEM_MAX, RIGHTS_RIGHT_MAX, RIGHTS_DEPTH_MAX);
+    chains_drop(RIGHTS_ITEM_MAX, ROOT, RIGHTS_ITEM_MAX, RIGHTS_RIGHT_MAX, 0);
+    chains_drop(ROOT, RIGHTS_ITEM_MAX, RIGHTS_ITEM_MAX, RIGHTS_RIGHT_MAX, 0);
+    returned("chains drop, depth 256", rights_chains_drop(UNIT, ROOT, HOLDER, ROOT, SET_RIGHT, 256), 3);
+    chains_drop(RIGHTS_ITEM_MAX, RIGHTS_ITEM_MAX, RIGHTS_ITEM_MAX, 0, 4);
+    chains_drop(ROOT, ROOT, RIGHTS_ITEM_MAX, 0, 0);
+    returned("chains delete, no editor left", rights_chains_delete(UNIT, ROOT, RIGHTS_ITEM_MAX), 8);
+}
+
+static void chains_refused_drops(void)
+{
+    returned("chains drop, depth 8", rights_chains_drop(UNIT, OWNER, HOLDER, DRAWER, RIGHT, 8), 3);
+    returned("chains drop, depth 4294967295", rights_chains_drop(UNIT, OWNER, HOLDER, DRAWER, RIGHT, UINT32_MAX), 3);
+    returned("chains drop, right 8", rights_chains_drop(UNIT, OWNER, HOLDER, DRAWER, 8, DEPTH), 3);
+    returned("chains drop, by 64", rights_chains_drop(UNIT, 64, HOLDER, DRAWER, RIGHT, DEPTH), 3);
+    returned("chains drop, to 64", rights_chains_drop(UNIT, OWNER, 64, DRAWER, RIGHT, DEPTH), 3);
+    returned("chains drop, on 64", rights_chains_drop(UNIT, OWNER, HOLDER, 64, RIGHT, DEPTH), 3);
+    returned("chains drop, depth 8, by dead", rights_chains_drop(UNIT, DEAD, HOLDER, DRAWER, RIGHT, 8), 3);
+    returned("chains drop, by dead", rights_chains_drop(UNIT, DEAD, HOLDER, DRAWER, RIGHT, DEPTH), 4);
+    returned("chains drop, by and to dead", rights_chains_drop(UNIT, DEAD, DEAD + 1, DRAWER, RIGHT, DEPTH), 4);
+    returned("chains drop, to dead", rights_chains_drop(UNIT, OWNER, DEAD, DRAWER, RIGHT, DEPTH), 5);
+    returned("chains drop, on dead", rights_chains_drop(UNIT, OWNER, HOLDER, DEAD, RIGHT, DEPTH), 5);
+    returned("chains drop by another, to dead", rights_chains_drop(UNIT, BORROWER, DEAD, DRAWER, RIGHT, DEPTH), 5);
+    returned("chains drop by another", rights_chains_drop(UNIT, BORROWER, HOLDER, DRAWER, RIGHT, DEPTH), 8);
+    returned("chains drop by another, no such depth", rights_chains_drop(UNIT, BORROWER, HOLDER, DRAWER, RIGHT, 5), 8);
+    returned("chains drop by another, its own", rights_chains_drop(UNIT, BORROWER, BORROWER, DRAWER, SET_RIGHT, DEPTH), 8);
+    loans[0] = loans_due[0] = 1;
+    returned("chains drop, one loan uncounted", rights_chains_drop(UNIT, OWNER, HOLDER, DRAWER, RIGHT, DEPTH), 2);
+    returned("chains drop, one loan uncounted, depth 8", rights_chains_drop(UNIT, OWNER, HOLDER, DRAWER, RIGHT, 8), 2);
     loans[0] = loans_due[0] = 2;
 }
 
@@ -320,6 +416,7 @@ static void chains_shifts(void)
     returned("chains lend, a standing loan", rights_chains_lend(UNIT, HOLDER, BORROWER, DRAWER, RIGHT, LOAN_DEPTH, LAST), 0);
     chains_shift(LAST + 1);
     chains_check("chains check, after the last shift", OWNER, 0, 0, nobody);
+    returned("chains drop, beside a past loan", rights_chains_drop(UNIT, OWNER, HOLDER, DRAWER, RIGHT, 5), 0);
     returned("chains lend, a past loan", rights_chains_lend(UNIT, HOLDER, BORROWER, DRAWER, RIGHT, LOAN_DEPTH, LAST), 13);
     returned("chains shift, one back", rights_chains_shift(UNIT, ROOT, LAST), 12);
     returned("chains shift, without edit on item 0", rights_chains_shift(UNIT, HOLDER, LAST), 8);
@@ -377,6 +474,7 @@ static void chains_refusals(void)
     returned("chains allow, length", rights_chains_allow(SHORT, OWNER, HOLDER, DRAWER, RIGHT, DEPTH), 1); \
     returned("chains allow_set, length", rights_chains_allow_set(SHORT, OWNER, SET, DRAWER, RIGHT, DEPTH), 1); \
     returned("chains withdraw, length", rights_chains_withdraw(SHORT, OWNER, HOLDER, DRAWER, RIGHT), 1); \
+    returned("chains drop, length", rights_chains_drop(SHORT, OWNER, HOLDER, DRAWER, RIGHT, DEPTH), 1); \
     returned("chains lend, length", rights_chains_lend(SHORT, HOLDER, BORROWER, DRAWER, RIGHT, DEPTH, LAST), 1); \
     returned("chains recall, length", rights_chains_recall(SHORT, HOLDER, BORROWER, DRAWER, RIGHT, LOAN_DEPTH, LAST), 1); \
     returned("chains shift, length", rights_chains_shift(SHORT, ROOT, RIGHTS_SHIFT_MAX), 1); \
@@ -396,6 +494,10 @@ static void chains_endings(void)
     returned("chains recall", rights_chains_recall(UNIT, HOLDER, BORROWER, DRAWER, RIGHT, LOAN_DEPTH, LAST), 0);
     loans_due[0] = (LAST - 1) * 65536 + 1;
     returned("chains shift, back", rights_chains_shift(UNIT, ROOT, LAST - 1), 0);
+    for (unsigned depth = 0; depth <= RIGHTS_DEPTH_MAX; depth++)
+        chains_drop(OWNER, HOLDER, DRAWER, SET_RIGHT, depth);
+    chains_drop(ROOT, HOLDER, ROOT, SET_RIGHT, DEPTH);
+    chains_drop(ROOT, DRAWER, HOLDER, SET_RIGHT, DEPTH);
     grants_grant(HOLDER, DRAWER, RIGHT, DEPTH, 0);
     grants_grant(HOLDER, DRAWER, RIGHT, 1, 0);
     returned("chains withdraw", rights_chains_withdraw(UNIT, OWNER, HOLDER, DRAWER, RIGHT), 0);
@@ -448,6 +550,10 @@ int main(void)
     chains_sets();
     chains_loans();
     chains_answers();
+    chains_drops();
+    chains_dropped_edit();
+    chains_refused_drops();
+    chains_drop_limits();
     chains_shifts();
     chains_shift_limits();
     chains_refusals();

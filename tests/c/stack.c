@@ -65,6 +65,7 @@ CALL(chains_delete, UNIT, 0, DEAD)
 CALL(chains_allow, UNIT, 0, LENDER, DRAWER, RIGHT, 7)
 CALL(chains_allow_set, UNIT, 0, SET, DRAWER, RIGHT, 7)
 CALL(chains_withdraw, UNIT, 0, LENDER, DRAWER, RIGHT)
+CALL(chains_drop, UNIT, 0, LENDER, DRAWER, RIGHT, 7)
 CALL(chains_lend, UNIT, LENDER, 0, DRAWER, RIGHT, 7, LAST)
 CALL(chains_recall, UNIT, LENDER, 0, DRAWER, RIGHT, 7, LAST)
 CALL(chains_shift, UNIT, 0, LAST)
@@ -86,8 +87,8 @@ static const struct {
     {"lists_fresh", lists_fresh}, {"rows_fresh", rows_fresh}, {"chains_inspect", chains_inspect}, {"chains_check", chains_check},
     {"chains_allow", chains_allow}, {"chains_allow_set", chains_allow_set}, {"chains_lend", chains_lend},
     {"chains_recall", chains_recall}, {"chains_create", chains_create}, {"chains_delete", chains_delete},
-    {"chains_withdraw", chains_withdraw}, {"chains_shift", chains_shift}, {"chains_fresh", chains_fresh}, {"version", version},
-    {"layout_date", layout_date},
+    {"chains_drop", chains_drop}, {"chains_withdraw", chains_withdraw}, {"chains_shift", chains_shift},
+    {"chains_fresh", chains_fresh}, {"version", version}, {"layout_date", layout_date},
 };
 enum { CALLS = sizeof calls / sizeof calls[0] };
 

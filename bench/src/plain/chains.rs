@@ -69,6 +69,13 @@ fn fresh(grants: &mut [u8], table: &mut [u32]) -> u32 {
     DONE
 }
 
+fn try_drop(unit: &mut Chains, g: Grant) -> Answer {
+    named(unit, g, g.depth)?;
+    require(unit.holds(g.by, g.on, 0), NO_EDIT)?;
+    unit.grants[place(g.to, g.on, g.right)] &= !(1 << g.depth);
+    Ok(())
+}
+
 fn try_lend(unit: &mut Chains, g: Grant) -> Answer {
     named(unit, g, g.depth)?;
     require(g.right != 0, EDIT_RIGHT)?;
@@ -120,6 +127,7 @@ pub const UNIT: api::Chains = api::Chains {
     allow: |grants, loans, g| super::allow(&mut Chains { grants, loans }, g),
     allow_set: |grants, loans, set, g| super::allow_set(&mut Chains { grants, loans }, set, g),
     withdraw: |grants, loans, g| super::withdraw(&mut Chains { grants, loans }, g),
+    drop: |grants, loans, g| number(try_drop(&mut Chains { grants, loans }, g)),
     lend: |grants, loans, g| number(try_lend(&mut Chains { grants, loans }, g)),
     recall: |grants, loans, g| number(try_recall(&mut Chains { grants, loans }, g)),
     check,

@@ -42,7 +42,10 @@ macro_rules! flat {
                     Command::Withdraw { by, to, on, right } => {
                         Some(lent::$unit::withdraw(image, by, to, on, right))
                     }
-                    Command::Lend { .. } | Command::Recall { .. } | Command::Shift { .. } => None,
+                    Command::Drop { .. }
+                    | Command::Lend { .. }
+                    | Command::Recall { .. }
+                    | Command::Shift { .. } => None,
                 }
             }
 
@@ -80,6 +83,9 @@ pub fn give_chains(grants: &mut [u8], loans: &mut [u32], command: Command) -> u3
         }
         Command::Withdraw { by, to, on, right } => {
             lent::chains::withdraw(grants, loans, by, to, on, right)
+        }
+        Command::Drop { by, to, on, right, depth } => {
+            lent::chains::drop(grants, loans, by, to, on, right, depth)
         }
         Command::Lend { by, to, on, right, depth, last } => {
             lent::chains::lend(grants, loans, by, to, on, right, depth, last)

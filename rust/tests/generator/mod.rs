@@ -2,7 +2,7 @@
 #![allow(dead_code)]
 
 use crate::model::commands::{lend, recall};
-use crate::model::{Command, Grant, Journal, Loan};
+use crate::model::{Command, Grant, Journal, Journals, Loan};
 
 /// splitmix64.
 pub struct Random(u64);
@@ -58,7 +58,7 @@ impl Drop for Trace {
 }
 
 /// The kinds of commands; those that lists and rows have come first.
-pub const KINDS: usize = 8;
+pub const KINDS: usize = 9;
 pub const FLAT_KINDS: usize = 5;
 
 /// What a list of commands favours.
@@ -69,7 +69,7 @@ pub struct Bias {
     pub items: u32,
     /// Rights in play, from 0.
     pub rights: u32,
-    /// Shares of the kinds: create, delete, allow, allowset, withdraw, lend, recall, shift.
+    /// Shares of the kinds: create, delete, allow, allowset, withdraw, drop, lend, recall, shift.
     pub shares: [u32; KINDS],
     /// Percent of loans with a last shift.
     pub dated: u32,
@@ -92,7 +92,7 @@ const EVEN: Bias = Bias {
     name: "few items",
     items: 6,
     rights: 3,
-    shares: [10, 5, 30, 3, 10, 30, 15, 4],
+    shares: [10, 5, 30, 3, 10, 4, 30, 15, 4],
     dated: 30,
     on_key: 0,
     held: 30,
@@ -101,13 +101,13 @@ const EVEN: Bias = Bias {
     length: 2_000,
 };
 
-pub const BIASES: [Bias; 10] = [
+pub const BIASES: [Bias; 12] = [
     EVEN,
-    Bias { name: "one key", items: 10, shares: [5, 1, 20, 1, 8, 50, 16, 4], on_key: 90, ..EVEN },
+    Bias { name: "one key", items: 10, shares: [5, 1, 20, 1, 8, 4, 50, 16, 4], on_key: 90, ..EVEN },
     Bias {
         name: "long chains",
         items: 16,
-        shares: [12, 1, 3, 0, 7, 60, 15, 2],
+        shares: [12, 1, 3, 0, 7, 2, 60, 15, 2],
         dated: 10,
         on_key: 97,
         held: 0,
@@ -117,7 +117,7 @@ pub const BIASES: [Bias; 10] = [
     Bias {
         name: "delete and create",
         items: 8,
-        shares: [28, 15, 25, 5, 2, 28, 2, 10],
+        shares: [28, 15, 25, 5, 2, 3, 28, 2, 10],
         on_key: 60,
         length: 400,
         ..EVEN
@@ -126,7 +126,7 @@ pub const BIASES: [Bias; 10] = [
         name: "full loans",
         items: 64,
         rights: 8,
-        shares: [2, 0, 6, 4, 1, 88, 3, 2],
+        shares: [2, 0, 6, 4, 1, 0, 88, 3, 2],
         wild: 0,
         length: 3_000,
         ..EVEN
@@ -134,18 +134,32 @@ pub const BIASES: [Bias; 10] = [
     Bias {
         name: "full loans of one key",
         items: 64,
-        shares: [2, 0, 6, 1, 2, 86, 4, 2],
+        shares: [2, 0, 6, 1, 2, 1, 86, 4, 2],
         on_key: 98,
         wild: 0,
         length: 3_000,
         ..EVEN
     },
-    Bias { name: "beyond the limits", items: 64, rights: 8, wild: 25, length: 1_000, ..EVEN },
-    Bias { name: "many grants", items: 64, rights: 8, shares: [10, 2, 70, 4, 8, 5, 5, 2], ..EVEN },
+    Bias {
+        name: "beyond the limits",
+        items: 64,
+        rights: 8,
+        shares: [10, 5, 30, 3, 10, 16, 30, 15, 4],
+        wild: 25,
+        length: 1_000,
+        ..EVEN
+    },
+    Bias {
+        name: "many grants",
+        items: 64,
+        rights: 8,
+        shares: [10, 2, 70, 4, 8, 6, 5, 5, 2],
+        ..EVEN
+    },
     Bias {
         name: "shift after shift",
         items: 8,
-        shares: [6, 2, 6, 1, 8, 34, 34, 16],
+        shares: [6, 2, 6, 1, 8, 2, 34, 34, 16],
         dated: 70,
         on_key: 80,
         held: 80,
@@ -155,9 +169,27 @@ pub const BIASES: [Bias; 10] = [
         name: "sets of items",
         items: 64,
         rights: 4,
-        shares: [8, 3, 8, 45, 14, 10, 4, 2],
+        shares: [8, 3, 8, 45, 14, 0, 10, 4, 2],
         on_key: 40,
         length: 1_000,
+        ..EVEN
+    },
+    Bias {
+        name: "depth after depth",
+        items: 5,
+        rights: 2,
+        shares: [10, 8, 40, 2, 6, 34, 8, 3, 2],
+        on_key: 40,
+        held: 80,
+        length: 300,
+        ..EVEN
+    },
+    Bias {
+        name: "edit grants",
+        items: 6,
+        rights: 1,
+        shares: [12, 14, 40, 2, 4, 26, 1, 1, 2],
+        length: 400,
         ..EVEN
     },
 ];
@@ -175,15 +207,18 @@ pub struct Generator {
     bias: Bias,
     /// The last allowset.
     allow_set: Option<Command>,
+    /// The last grant that was to be dropped.
+    dropped: Option<Grant>,
 }
 
 impl Generator {
     pub fn new(seed: u64, bias: Bias) -> Self {
-        Self { random: Random::new(seed), bias, allow_set: None }
+        Self { random: Random::new(seed), bias, allow_set: None, dropped: None }
     }
 
-    /// The next command of a list; `step` counts from 0. A list begins with its items.
-    pub fn command(&mut self, journal: &Journal, step: u32) -> Command {
+    /// The next command of a list; `step` counts from 0. A list begins with its items. What lists and
+    /// rows have is aimed at their state too, where drops have parted it from the chain unit's.
+    pub fn command(&mut self, journals: &Journals, step: u32) -> Command {
         let item = step + 1;
         if item < self.bias.items {
             return Command::Create { by: 0, on: item };
@@ -195,7 +230,9 @@ impl Generator {
             at = at.saturating_sub(share);
             here
         });
-        self.of_kind(kind.expect("a share"), journal)
+        let kind = kind.expect("a share");
+        let flat = kind < FLAT_KINDS && self.random.percent(30);
+        self.of_kind(kind, if flat { &journals.flat } else { &journals.chains })
     }
 
     /// A command of the kind, in the order of `shares`.
@@ -211,8 +248,9 @@ impl Generator {
             2 => Command::Allow { by: self.editor(journal, on), to, on, right, depth },
             3 => self.allow_set(journal, on, right),
             4 => self.withdraw(journal),
-            5 => self.lend(journal, on, right),
-            6 => self.recall(journal),
+            5 => self.drop(journal),
+            6 => self.lend(journal, on, right),
+            7 => self.recall(journal),
             _ => Command::Shift { by: self.editor(journal, 0), now: self.now(journal) },
         }
     }
@@ -271,6 +309,36 @@ impl Generator {
         let grant = aimed.unwrap_or(any);
         let by = self.editor(journal, grant.item);
         Command::Withdraw { by, to: grant.person, on: grant.item, right: grant.right }
+    }
+
+    /// A grant that stands, a last edit grant seldom, or another depth, or any; at times with what is
+    /// refused.
+    fn drop(&mut self, journal: &Journal) -> Command {
+        let (on, right) = self.key();
+        let any = Grant { item: on, right, person: self.item(), depth: self.depth() };
+        let standing = journal.grants.range(any..).next().copied();
+        let last_edit =
+            |g: &Grant| g.right == 0 && journal.depths(g.person, g.item, 0).eq([g.depth]);
+        let aimed = standing.filter(|g| self.random.percent(if last_edit(g) { 15 } else { 90 }));
+        let grant = aimed.unwrap_or(any);
+        let depth = if self.random.percent(80) { grant.depth } else { self.number(8) };
+        self.dropped = Some(Grant { depth, ..grant });
+        let own = self.random.percent(15) && journal.granted(grant.person, grant.item, 0);
+        let by = if own { grant.person } else { self.editor(journal, grant.item) };
+        if self.random.percent(20) {
+            return self.faulty_drop(journal, by, Grant { depth, ..grant });
+        }
+        Command::Drop { by, to: grant.person, on: grant.item, right: grant.right, depth }
+    }
+
+    /// The drop with a dead name or two, one who may not edit, or a depth beyond the limit.
+    fn faulty_drop(&mut self, journal: &Journal, by: u32, grant: Grant) -> Command {
+        let Grant { item, right, person, depth } = grant;
+        let mut or_dead = |item| if self.random.percent(35) { self.dead(journal) } else { item };
+        let (by, to, on) = (or_dead(by), or_dead(person), or_dead(item));
+        let by = if self.random.percent(30) { self.living(journal) } else { by };
+        let depth = if self.random.percent(40) { 8 } else { depth };
+        Command::Drop { by, to, on, right, depth }
     }
 
     /// A loan that stands, at times for another last shift, one to the next item, or any.
@@ -400,8 +468,12 @@ impl Generator {
         self.random.next() as u32
     }
 
-    /// Who, on and right of a check, biased to loans that stand.
+    /// Who, on and right of a check, biased to loans that stand and, in a list with drops, to what was
+    /// dropped last.
     pub fn question(&mut self, journal: &Journal) -> (u32, u32, u32) {
+        if let Some(grant) = self.dropped.filter(|_| self.random.percent(10)) {
+            return (grant.person, grant.item, grant.right);
+        }
         if self.random.percent(60) {
             let loan = self.standing_or_dated(journal);
             return (loan.borrower, loan.item, loan.right);

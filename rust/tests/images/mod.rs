@@ -5,7 +5,8 @@ use rights::lent;
 
 use crate::engine::{give_chains, Flat};
 use crate::model::{
-    image_of, loans_image, Command, GrantLayout, Journal, Layout, ListLayout, RowLayout,
+    image_of, loans_image, Command, GrantLayout, Journal, Journals, Layout, ListLayout, Numbers,
+    RowLayout,
 };
 
 /// The images of the three units.
@@ -32,12 +33,22 @@ impl Images {
         images
     }
 
+    /// The images of units that follow one journal.
     pub fn of(journal: &Journal) -> Self {
+        Self::of_each(journal, journal)
+    }
+
+    /// The images of units of which each follows its own journal.
+    pub fn of_both(journals: &Journals) -> Self {
+        Self::of_each(&journals.flat, &journals.chains)
+    }
+
+    fn of_each(flat: &Journal, chains: &Journal) -> Self {
         Self {
-            lists: image_of::<ListLayout>(journal),
-            rows: image_of::<RowLayout>(journal),
-            grants: image_of::<GrantLayout>(journal),
-            loans: loans_image(journal),
+            lists: image_of::<ListLayout>(flat),
+            rows: image_of::<RowLayout>(flat),
+            grants: image_of::<GrantLayout>(chains),
+            loans: loans_image(chains),
         }
     }
 
@@ -53,14 +64,16 @@ impl Images {
     /// The same command to each unit that has it; each answers with the number.
     #[track_caller]
     pub fn give(&mut self, command: Command, number: u32) {
-        let passed_over = matches!(
-            command,
-            Command::Lend { .. } | Command::Recall { .. } | Command::Shift { .. }
-        );
-        let expected = Some(number).filter(|_| !passed_over);
-        assert_eq!(ListLayout::give(&mut self.lists, command), expected, "lists, {command:?}");
-        assert_eq!(RowLayout::give(&mut self.rows, command), expected, "rows, {command:?}");
+        let flat = Some(number).filter(|_| command.is_flat());
+        self.give_each(command, Numbers { chains: number, flat });
+    }
+
+    /// The same command to each unit that has it; each answers with its own number.
+    #[track_caller]
+    pub fn give_each(&mut self, command: Command, numbers: Numbers) {
+        assert_eq!(ListLayout::give(&mut self.lists, command), numbers.flat, "lists, {command:?}");
+        assert_eq!(RowLayout::give(&mut self.rows, command), numbers.flat, "rows, {command:?}");
         let chains = give_chains(&mut self.grants, &mut self.loans, command);
-        assert_eq!(chains, number, "chains, {command:?}");
+        assert_eq!(chains, numbers.chains, "chains, {command:?}");
     }
 }

@@ -22,6 +22,10 @@ pub const fn withdraw(by: u32, to: u32, on: u32, right: u32) -> Command {
     Command::Withdraw { by, to, on, right }
 }
 
+pub const fn drop(by: u32, to: u32, on: u32, right: u32, depth: u32) -> Command {
+    Command::Drop { by, to, on, right, depth }
+}
+
 pub const fn lend(by: u32, to: u32, on: u32, right: u32, depth: u32, last: u32) -> Command {
     Command::Lend { by, to, on, right, depth, last }
 }

@@ -35,6 +35,7 @@ pub enum Command {
     Allow { by: u32, to: u32, on: u32, right: u32, depth: u32 },
     AllowSet { by: u32, set: u64, on: u32, right: u32, depth: u32 },
     Withdraw { by: u32, to: u32, on: u32, right: u32 },
+    Drop { by: u32, to: u32, on: u32, right: u32, depth: u32 },
     Lend { by: u32, to: u32, on: u32, right: u32, depth: u32, last: u32 },
     Recall { by: u32, to: u32, on: u32, right: u32, depth: u32, last: u32 },
     Shift { by: u32, now: u32 },
@@ -57,7 +58,8 @@ impl Command {
             Command::Withdraw { by, to, on, right } => {
                 Named { items: vec![by, to, on], right, depth: 0, shift: 0 }
             }
-            Command::Allow { by, to, on, right, depth } => {
+            Command::Allow { by, to, on, right, depth }
+            | Command::Drop { by, to, on, right, depth } => {
                 Named { items: vec![by, to, on], right, depth, shift: 0 }
             }
             // "bit i for item i": no member of a set is above 63.
@@ -79,8 +81,23 @@ impl Command {
         items || named.right > 7 || named.depth > 7 || named.shift > 255
     }
 
-    fn by(self) -> u32 {
+    pub fn by(self) -> u32 {
         self.named().items[0]
+    }
+
+    /// Lists and rows have "the first four commands" of document 01 and allowset.
+    pub fn is_flat(self) -> bool {
+        match self {
+            Command::Create { .. }
+            | Command::Delete { .. }
+            | Command::Allow { .. }
+            | Command::AllowSet { .. }
+            | Command::Withdraw { .. } => true,
+            Command::Drop { .. }
+            | Command::Lend { .. }
+            | Command::Recall { .. }
+            | Command::Shift { .. } => false,
+        }
     }
 
     /// The single allows of an allowset, in an order that changes with the set; none of any other
@@ -94,6 +111,16 @@ impl Command {
             (set ^ u64::from(item)).wrapping_mul(0x9e37_79b9_7f4a_7c15).rotate_left(23)
         });
         members.into_iter().map(|to| Command::Allow { by, to, on, right, depth }).collect()
+    }
+
+    /// The eight drops of a withdraw, in an order that changes with the person and the item; none of
+    /// any other command.
+    pub fn single_drops(self) -> Vec<Command> {
+        let Command::Withdraw { by, to, on, right } = self else {
+            return Vec::new();
+        };
+        let depths = (0..8).map(|n| (n ^ to & 7).wrapping_mul(on | 1) % 8);
+        depths.map(|depth| Command::Drop { by, to, on, right, depth }).collect()
     }
 
     /// The loan that a lend or a recall is about.
@@ -146,9 +173,10 @@ impl Journal {
             _ if !self.lives(command.by()) => 4,
             Command::Create { on, .. } => self.answer_create(on),
             Command::Delete { by, on } => self.answer_delete(by, on),
-            Command::Allow { by, to, on, .. } | Command::Withdraw { by, to, on, .. } => {
-                self.answer_edit(by, to, on)
-            }
+            // "drop has withdraw's refusals and 3 for the depth".
+            Command::Allow { by, to, on, .. }
+            | Command::Withdraw { by, to, on, .. }
+            | Command::Drop { by, to, on, .. } => self.answer_edit(by, to, on),
             Command::Lend { by, to, on, right, depth, last } => {
                 self.answer_lend(Loan { lender: by, item: on, right, borrower: to, depth, last })
             }
@@ -244,8 +272,12 @@ impl Journal {
                     assert_eq!(self.give(allow), 0, "{allow:?} of {command:?}");
                 }
             }
-            Command::Withdraw { to, on, right, .. } => {
-                self.grants.retain(|g| (g.person, g.item, g.right) != (to, on, right));
+            // "withdraw is eight drops, checked once before the first and done as one".
+            Command::Withdraw { .. } => {
+                command.single_drops().into_iter().for_each(|drop| self.change(drop));
+            }
+            Command::Drop { to, on, right, depth, .. } => {
+                self.grants.remove(&Grant { item: on, right, person: to, depth });
             }
             Command::Lend { by, to, on, right, depth, last } => {
                 self.loans.insert(Loan { lender: by, item: on, right, borrower: to, depth, last });

@@ -1,5 +1,5 @@
-//! Document 01 once more, with requests K1 and K2 of document 02, in plain Rust over sets. It shares
-//! no code with the engine; where the papers leave a choice, it follows the readings in
+//! Document 01 once more, with requests K1 to K3 of document 02, in plain Rust over sets. It shares no
+//! code with the engine; where the papers leave a choice, it follows the readings in
 //! docs/DECISIONS.md.
 #![allow(dead_code, unused_imports)]
 
@@ -7,6 +7,7 @@ mod chains;
 pub mod commands;
 mod images;
 mod journal;
+mod journals;
 
 pub use chains::Ending;
 pub use images::{
@@ -14,3 +15,4 @@ pub use images::{
     loans_read, word_of, Cell, GrantLayout, Head, Layout, ListLayout, Place, RowLayout,
 };
 pub use journal::{Command, Grant, Journal, Loan};
+pub use journals::{Journals, Numbers};

@@ -1,19 +1,30 @@
 //! How often a run came upon what shifts are about, loans for one shift, past loans and a shift that
-//! goes back; and upon what allowsets are about.
+//! goes back; and upon what allowsets and drops are about.
 
 mod allow_sets;
+mod drops;
 
-use crate::model::{Command, Journal, Loan};
+use crate::model::{Command, Journal, Journals, Loan, Numbers};
+use drops::{Bereft, Dropped};
 
-/// A command, the journal before it, and its number.
+/// A command, the journals before it, and its numbers.
 struct Moment<'a> {
+    journals: &'a Journals,
+    /// The chain unit's.
     journal: &'a Journal,
     command: Command,
+    /// The chain unit's.
     number: u32,
+    /// That of lists and rows, where they have the command.
+    flat_number: Option<u32>,
     /// The last loan with a last shift that stood ended by a recall.
     freed: bool,
     /// It is the last accepted allowset again.
     again: bool,
+    /// What there is to say where it is a drop.
+    dropped: Option<Dropped<'a>>,
+    /// It needs an edit grant that its `by` has dropped.
+    bereft: bool,
 }
 
 impl Moment<'_> {
@@ -121,30 +132,65 @@ pub struct Situations {
     commands: [u64; SITUATIONS.len()],
     answers: [u64; ANSWERS.len()],
     allow_sets: [u64; allow_sets::SITUATIONS.len()],
+    drops: [u64; drops::SITUATIONS.len()],
+    withdraws: [u64; drops::WITHDRAWS.len()],
+    drop_answers: [u64; drops::ANSWERS.len()],
     freed: bool,
     /// The last accepted allowset.
     allow_set: Option<Command>,
+    bereft: Bereft,
+}
+
+/// Adds 1 to the count of each that is one.
+fn count(counts: &mut [u64], are: impl IntoIterator<Item = bool>) {
+    for (count, is_one) in counts.iter_mut().zip(are) {
+        *count += u64::from(is_one);
+    }
 }
 
 impl Situations {
-    /// Counts the command, which the journal has yet to be given.
-    pub fn command(&mut self, journal: &Journal, command: Command, number: u32) {
-        let again = self.allow_set == Some(command);
-        let moment = Moment { journal, command, number, freed: self.freed, again };
-        let counts = self.commands.iter_mut().chain(&mut self.allow_sets);
-        for (count, (_, is_one)) in counts.zip(SITUATIONS.iter().chain(&allow_sets::SITUATIONS)) {
-            *count += u64::from(is_one(&moment));
-        }
-        if matches!(command, Command::AllowSet { .. }) && number == 0 {
-            self.allow_set = Some(command);
+    /// Counts the command, which the journals have yet to be given.
+    pub fn command(&mut self, journals: &Journals, command: Command, numbers: Numbers) {
+        let (journal, number) = (&journals.chains, numbers.chains);
+        let moment = Moment {
+            journals,
+            journal,
+            command,
+            number,
+            flat_number: numbers.flat,
+            freed: self.freed,
+            again: self.allow_set == Some(command),
+            dropped: Dropped::of(journal, command, number),
+            bereft: self.bereft.names(command),
+        };
+        count(&mut self.commands, SITUATIONS.iter().map(|(_, is_one)| is_one(&moment)));
+        let allow_sets = allow_sets::SITUATIONS.iter();
+        count(&mut self.allow_sets, allow_sets.map(|(_, is_one)| is_one(&moment)));
+        count(&mut self.drops, drops::SITUATIONS.iter().map(|(_, is_one)| is_one(&moment)));
+        self.keep(&moment);
+    }
+
+    /// What later moments need to know of this one.
+    fn keep(&mut self, moment: &Moment) {
+        if matches!(moment.command, Command::AllowSet { .. }) && moment.number == 0 {
+            self.allow_set = Some(moment.command);
         }
         let lent = moment.lend(0).is_some_and(|loan| loan.last != 0);
-        let recalled = moment.recall().is_some_and(|loan| journal.dated().eq([&loan]));
+        let recalled = moment.recall().is_some_and(|loan| moment.journal.dated().eq([&loan]));
         self.freed = recalled || self.freed && !lent && !moment.back(0);
+        self.bereft.take(moment.dropped.as_ref(), moment.number, moment.journal);
+    }
+
+    /// Counts a withdraw of so many depths by the numbers of its eight drops.
+    pub fn withdraw(&mut self, depths: usize, numbers: &[u32]) {
+        let equal = depths > 1 && numbers.iter().all(|&number| number == 0);
+        count(&mut self.withdraws, [equal, numbers.contains(&8)]);
     }
 
     /// Counts the answer to a question within the limits.
-    pub fn answer(&mut self, journal: &Journal, (who, on, right): (u32, u32, u32)) {
+    pub fn answer(&mut self, journals: &Journals, question: (u32, u32, u32)) {
+        count(&mut self.drop_answers, drops::owes(journals, question));
+        let (journal, (who, on, right)) = (&journals.chains, question);
         let in_shift = |shift| journal.best_in(shift, on, right)[who as usize];
         let (now, next, all) = (in_shift(journal.shift), in_shift(journal.shift + 1), in_shift(0));
         let owes = [
@@ -152,27 +198,29 @@ impl Situations {
             now.is_none() && all.is_some(),
             now.is_some() && now < all,
         ];
-        for (count, is_one) in self.answers.iter_mut().zip(owes) {
-            *count += u64::from(is_one);
-        }
+        count(&mut self.answers, owes);
     }
 
     pub fn add(&mut self, other: &Self) {
-        let into = self.commands.iter_mut().chain(&mut self.answers).chain(&mut self.allow_sets);
-        for (count, more) in into.zip(other.counts()) {
-            *count += more;
-        }
+        let commands = self.commands.iter_mut().chain(&mut self.answers);
+        let drops = self.drops.iter_mut().chain(&mut self.withdraws).chain(&mut self.drop_answers);
+        let into = commands.chain(&mut self.allow_sets).chain(drops);
+        into.zip(other.counts()).for_each(|(count, more)| *count += more);
     }
 
     fn counts(&self) -> impl Iterator<Item = &u64> {
-        self.commands.iter().chain(&self.answers).chain(&self.allow_sets)
+        let drops = self.drops.iter().chain(&self.withdraws).chain(&self.drop_answers);
+        self.commands.iter().chain(&self.answers).chain(&self.allow_sets).chain(drops)
     }
 
     /// Each situation by its name, and how often it came up.
     fn named(&self) -> impl Iterator<Item = (&'static str, u64)> + '_ {
         let name = |situation: &Situation| situation.0;
-        let names = SITUATIONS.iter().map(name).chain(ANSWERS);
-        names.chain(allow_sets::SITUATIONS.iter().map(name)).zip(self.counts().copied())
+        let commands = SITUATIONS.iter().map(name).chain(ANSWERS);
+        let allow_sets = allow_sets::SITUATIONS.iter().map(name);
+        let drops =
+            drops::SITUATIONS.iter().map(name).chain(drops::WITHDRAWS).chain(drops::ANSWERS);
+        commands.chain(allow_sets).chain(drops).zip(self.counts().copied())
     }
 
     pub fn print(&self) {

@@ -7,7 +7,7 @@ use rights::lent::chains::Checked;
 
 use crate::engine::{check_chains, give_chains};
 use crate::model::commands::{
-    allow, allow_set, create, delete, lend, recall, shift, withdraw, BASE,
+    allow, allow_set, create, delete, drop, lend, recall, shift, withdraw, BASE,
 };
 use crate::model::{Command, GrantLayout, Layout};
 
@@ -101,6 +101,7 @@ impl Unit {
         left.give(number, &[withdraw(0, 0, 0, 1), lend(0, 0, 0, 1, 0, 0), shift(0, 0)]);
         left.give(number, &[recall(0, 0, 0, 1, 0, 0), shift(64, 0)]);
         left.give(number, &[allow_set(0, 1, 0, 1, 0), allow_set(64, 0, 0, 1, 0)]);
+        left.give(number, &[drop(0, 0, 0, 0, 0), drop(64, 0, 0, 1, 8)]);
         left.refuse_check((64, 0, 0), 8, number);
         assert_eq!(lent::chains::inspect(&left.grants, &left.loans), number, "inspect");
         assert!(left == *self, "an image changed");
