@@ -42,7 +42,7 @@ grantsIn ds = map (λ d. d .ended) ds
 module _ {S : Type 0} (answer : S → Command → ℕ) (next : S → Command → S) (stands : S → Grant → Bool) (guard : S → ℕ → ℕ) where
   -- drop in state s
   pub record Drops (s : S) (by to on right depth : ℕ) : Type 0 where
-    -- 'withdraw's refusals': the number is withdraw's, whatever the depth
+    -- 'withdraw's refusals': within the depths the number is withdraw's
     pub number : depth ≤ 7 → answer s (Drop by to on right depth) ≡ answer s (Withdraw by to on right)
     -- 'and 3 for the depth'
     pub beyond : (depth ≤ 7 → ⊥) → answer s (Drop by to on right depth) ≡ guard s 3

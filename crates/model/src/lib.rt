@@ -1,7 +1,5 @@
 // Items, rights, depths, shifts and sets of items, the commands that carry them, and the one table of refusals.
 ghost use mathlib.Core.Path.{_≡_};
-ghost use Rattle.model.specs.declared.Command.the-variants.{Withdraw, AllowSet};
-ghost use Rattle.model.specs.declared.Command.the-variants as command;
 ghost use Rattle.model.specs.Commands.{items, rightDepth, shifts, arguments, argumentsOf, isEmpty, fits, typedOf, withinOf, rawOf, questionOf, itemOf, rightOf, depthOf, shiftOf};
 ghost use Rattle.model.specs.Answers.{numberOf, answerFor, checkedOf, flatEdit, flat, knows, table, _when_else_};
 
@@ -255,6 +253,19 @@ pub enum Edit {
     Nothing,
 }
 
+// The items that a command names.
+struct Items {
+    by: u32,
+    to: u32,
+    on: u32,
+}
+
+// The right and the depth that it names.
+struct RightDepth {
+    right: u32,
+    depth: u32,
+}
+
 // Any command's arguments. The shift is the last one of a loan, or the one that begins.
 pub struct Arguments {
     pub verb: Verb,
@@ -454,67 +465,6 @@ impl Edit {
 }
 
 impl Arguments {
-    // Without a set.
-    fn of(
-        verb: Verb,
-        edit: Edit,
-        by: u32,
-        to: u32,
-        on: u32,
-        right: u32,
-        depth: u32,
-        shift: u32,
-    ) -> Arguments
-        ensures { λ r. ⌜ r ≡ arguments verb edit by to on right depth shift 0 ⌝ }
-    {
-        Arguments {
-            verb,
-            edit,
-            by,
-            to,
-            on,
-            right,
-            depth,
-            shift,
-            set: 0,
-        }
-    }
-
-    // Of a command about an item alone.
-    fn of_item(verb: Verb, edit: Edit, by: u32, on: u32) -> Arguments
-        ensures { λ r. ⌜ r ≡ arguments verb edit by on on 0 0 0 0 ⌝ }
-    {
-        Arguments::of(verb, edit, by, on, on, 0, 0, 0)
-    }
-
-    fn of_withdraw(by: u32, to: u32, on: u32, right: u32) -> Arguments
-        ensures { λ r. ⌜ r ≡ argumentsOf (Withdraw by to on right) ⌝ }
-    {
-        Arguments::of(Verb::Withdraw, Edit::Withdraw, by, to, on, right, 0, 0)
-    }
-
-    fn of_shift(by: u32, shift: u32) -> Arguments
-        ensures { λ r. ⌜ r ≡ argumentsOf (command.Shift by shift) ⌝ }
-    {
-        Arguments::of(Verb::Shift, Edit::Nothing, by, 0, 0, 0, 0, shift)
-    }
-
-    fn of_set(by: u32, set: u64, on: u32, right: u32, depth: u32) -> Arguments
-        ensures { λ r. ⌜ r ≡ argumentsOf (AllowSet by set on right depth) ⌝ }
-    {
-        Arguments {
-            verb: Verb::AllowSet,
-            edit: Edit::AllowSet,
-            by,
-            to: on,
-            on,
-            right,
-            depth,
-            shift: 0,
-            set,
-        }
-    }
-
     fn fits(self) -> bool
         ensures { λ r. ⌜ r ≡ fits self ⌝ }
     {
@@ -545,52 +495,84 @@ impl Arguments {
 }
 
 impl Command {
-    // One without a to names on alone, one without a right, a depth, a shift or a set has 0 there. Shift is about item 0.
+    // The items that it names. One without a to names on alone, and shift is about item 0.
+    fn items(self) -> Items
+        ensures { λ r. ⌜ (r .by ≡ argumentsOf self .by) × (r .to ≡ argumentsOf self .to) × (r .on ≡ argumentsOf self .on) ⌝ }
+    {
+        match self {
+            Command::Create { by, on } => Items { by, to: on, on },
+            Command::Delete { by, on } => Items { by, to: on, on },
+            Command::Allow { by, to, on, .. } => Items { by, to, on },
+            Command::Withdraw { by, to, on, .. } => Items { by, to, on },
+            Command::Lend { by, to, on, .. } => Items { by, to, on },
+            Command::Recall { by, to, on, .. } => Items { by, to, on },
+            Command::Shift { by, .. } => Items { by, to: 0, on: 0 },
+            Command::AllowSet { by, on, .. } => Items { by, to: on, on },
+            Command::Drop { by, to, on, .. } => Items { by, to, on },
+        }
+    }
+
+    // The right and the depth that it names; 0 where it names none.
+    fn right_depth(self) -> RightDepth
+        ensures { λ r. ⌜ (r .right ≡ argumentsOf self .right) × (r .depth ≡ argumentsOf self .depth) ⌝ }
+    {
+        match self {
+            Command::Create { .. } => RightDepth { right: 0, depth: 0 },
+            Command::Delete { .. } => RightDepth { right: 0, depth: 0 },
+            Command::Allow { right, depth, .. } => RightDepth { right, depth },
+            Command::Withdraw { right, .. } => RightDepth { right, depth: 0 },
+            Command::Lend { right, depth, .. } => RightDepth { right, depth },
+            Command::Recall { right, depth, .. } => RightDepth { right, depth },
+            Command::Shift { .. } => RightDepth { right: 0, depth: 0 },
+            Command::AllowSet { right, depth, .. } => RightDepth { right, depth },
+            Command::Drop { right, depth, .. } => RightDepth { right, depth },
+        }
+    }
+
+    // All of these, and what the command has beside them.
+    fn arguments_with(self, verb: Verb, edit: Edit, shift: u32, set: u64) -> Arguments
+        ensures { λ r. ⌜ r ≡ arguments verb edit (argumentsOf self .by) (argumentsOf self .to) (argumentsOf self .on)
+            (argumentsOf self .right) (argumentsOf self .depth) shift set ⌝ }
+    {
+        let items = self.items();
+        let named = self.right_depth();
+        Arguments {
+            verb,
+            edit,
+            by: items.by,
+            to: items.to,
+            on: items.on,
+            right: named.right,
+            depth: named.depth,
+            shift,
+            set,
+        }
+    }
+
+    // One without a shift or a set has 0 there.
     pub fn arguments(self) -> Arguments
         ensures { λ r. ⌜ r ≡ argumentsOf self ⌝ }
     {
         match self {
-            Command::Create { by, on } => Arguments::of_item(Verb::Create, Edit::Create, by, on),
-            Command::Delete { by, on } => Arguments::of_item(Verb::Delete, Edit::Delete, by, on),
-            Command::Allow {
-                by,
-                to,
-                on,
-                right,
-                depth,
-            } => Arguments::of(Verb::Allow, Edit::Allow, by, to, on, right, depth, 0),
-            Command::Withdraw { by, to, on, right } => Arguments::of_withdraw(by, to, on, right),
-            Command::Lend {
-                by,
-                to,
-                on,
-                right,
-                depth,
+            Command::Create { .. } => self.arguments_with(Verb::Create, Edit::Create, 0, 0),
+            Command::Delete { .. } => self.arguments_with(Verb::Delete, Edit::Delete, 0, 0),
+            Command::Allow { .. } => self.arguments_with(Verb::Allow, Edit::Allow, 0, 0),
+            Command::Withdraw { .. } => self.arguments_with(Verb::Withdraw, Edit::Withdraw, 0, 0),
+            Command::Lend { last, .. } => self.arguments_with(Verb::Lend, Edit::Nothing, last, 0),
+            Command::Recall { last, .. } => self.arguments_with(
+                Verb::Recall,
+                Edit::Nothing,
                 last,
-            } => Arguments::of(Verb::Lend, Edit::Nothing, by, to, on, right, depth, last),
-            Command::Recall {
-                by,
-                to,
-                on,
-                right,
-                depth,
-                last,
-            } => Arguments::of(Verb::Recall, Edit::Nothing, by, to, on, right, depth, last),
-            Command::Shift { by, now } => Arguments::of_shift(by, now),
-            Command::AllowSet {
-                by,
+                0,
+            ),
+            Command::Shift { now, .. } => self.arguments_with(Verb::Shift, Edit::Nothing, now, 0),
+            Command::AllowSet { set, .. } => self.arguments_with(
+                Verb::AllowSet,
+                Edit::AllowSet,
+                0,
                 set,
-                on,
-                right,
-                depth,
-            } => Arguments::of_set(by, set, on, right, depth),
-            Command::Drop {
-                by,
-                to,
-                on,
-                right,
-                depth,
-            } => Arguments::of(Verb::Drop, Edit::Nothing, by, to, on, right, depth, 0),
+            ),
+            Command::Drop { .. } => self.arguments_with(Verb::Drop, Edit::Nothing, 0, 0),
         }
     }
 
