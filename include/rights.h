@@ -23,7 +23,7 @@
  *
  * - Byte order: least byte first, which is how this machine holds words.
  * - Layout: keep RIGHTS_LAYOUT_DATE beside every stored image, and read no image with another date.
- * - Integrity: 'in order' is no checksum. Of the single-bit changes to the images of one state 5,630 left them in order, each then
+ * - Integrity: 'in order' is no checksum. Of the single-bit changes to the images of one state 5,587 left them in order, each then
  *   with another shift or other items, grants or loans. Keep a checksum beside every stored image, and compare it before
  *   rights_*_inspect.
  *

@@ -2,7 +2,7 @@
 -- their order does not show; and the eight of a withdraw clear every place that is about its person, item and right, and no other
 -- (`withdrawn-places`).
 use mathlib.Core.Path.{_≡_, refl, sym, ap, _∙_}
-use mathlib.Core.Bool.{Bool, true, false, not, _&&_, _||_, false≢true, and-true}
+use mathlib.Core.Bool.{Bool, true, false, not, _&&_, _||_, false≢true, and-true, or-false}
 use mathlib.Core.List.{List, [], _∷_}
 use Prim.Native.Nat.{ℕ, _<_}
 use borrow.Author.Tests.{eqb-true}
@@ -40,11 +40,7 @@ module _ (L : Layout) (W : Laws L) where
       → droppedAll L (build L (liveIn L s) (λ k. grantBit L s k && not (f k))) gs
       ≡ build L (liveIn L s) (λ k. grantBit L s k && not (f k || placeOf gs k))
   unfolding any
-  more-dropped [] s f = build-cong L W _ _ _ _ (λ i h. refl) (λ k h. ap (λ b. grantBit L s k && not b) (or-none (f k)))
-    where
-      or-none : (b : Bool) → b ≡ b || false
-      or-none true = refl
-      or-none false = refl
+  more-dropped [] s f = build-cong L W _ _ _ _ (λ i h. refl) (λ k h. ap (λ b. grantBit L s k && not b) (sym (or-false (f k))))
   more-dropped (g ∷ gs) s f =
       ap (λ (x : List ℕ). droppedAll L x gs)
       (build-cong L W _ _ _ _ (λ i h. live-build L W (liveIn L s) _ i h)

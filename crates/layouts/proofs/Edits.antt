@@ -52,6 +52,11 @@ rows-flat = record {
   within = λ k h. in-range (k / 512) (k / 8 % 64) (k % 8) 0 (omega arith) (omega arith) (omega arith) (omega arith);
 }
 
+-- one place for the eight depths
+eight-times : (x : Bool) → x || (x || (x || (x || (x || (x || (x || (x || false))))))) ≡ x
+eight-times true = refl
+eight-times false = refl
+
 -- bit 64 + i of an image is place i
 pub shifted : (i p : ℕ) → eqb (64 + i) (64 + p) ≡ eqb p i
 shifted i p =
@@ -80,11 +85,7 @@ module _ (L : Layout) (W : Laws L) where
       → held L s p o r ≡ bit (getD s c 0) b
   unfolding any
   held-is F s p o r c b k e =
-      simp (F .depthless) (same (grantBit L s (L .place (grant p o r 0))) ∙ ap (at (L .width) s) e ∙ at-cell (L .width) (W .wide) s c b k)
-    where
-      same : (x : Bool) → x || (x || (x || (x || (x || (x || (x || (x || false))))))) ≡ x
-      same true = refl
-      same false = refl
+      simp (F .depthless) (eight-times (grantBit L s (L .place (grant p o r 0))) ∙ ap (at (L .width) s) e ∙ at-cell (L .width) (W .wide) s c b k)
 
   -- create: the item's bit of the live set, then an edit grant to by
   pub create-is : (s : List ℕ) → length s ≡ L .cells → (by on c b : ℕ) → on < 64 → b < L .width → on ≡ c * L .width + b
@@ -127,13 +128,9 @@ module _ (L : Layout) (W : Laws L) where
         cleared-is (L .place (grant to on right 0)) c b (W .below (grant to on right 0) g) k e
         ∙ build-cong L W _ _ _ _ (λ i u. refl)
         (λ i u. let e : eqb (L .place (grant to on right 0)) i ≡ any (λ d. eqb (L .place (grant to on right d)) i) depths
-        = simp (F .depthless) (same (eqb (L .place (grant to on right 0)) i)) in
+        = simp (F .depthless) (sym (eight-times (eqb (L .place (grant to on right 0)) i))) in
         ap (λ x. grantBit L s i && not x) e)
         ∙ sym (withdrawn-eight L W s to on right)
-      where
-        same : (x : Bool) → x ≡ x || (x || (x || (x || (x || (x || (x || (x || false)))))))
-        same true = refl
-        same false = refl
 
     -- delete: any cells with every bit but those that name the item
     pub delete-is : (t : List ℕ) (on : ℕ) → length t ≡ L .cells → Cells (L .width) t

@@ -2,7 +2,7 @@
 -- order does not show and eight of them, one of each depth, are withdraw. A drop asks what withdraw asks, and it takes nothing away
 -- that another needs unless it is an edit grant of by's (`still`).
 use mathlib.Core.Path.{_≡_, refl, sym, ap, _∙_, subst}
-use mathlib.Core.Bool.{Bool, true, false, not, _&&_, _||_, cond, false≢true, and-true}
+use mathlib.Core.Bool.{Bool, true, false, not, _&&_, _||_, cond, false≢true, and-true, or-false}
 use mathlib.Core.List.{List, [], _∷_, map}
 use mathlib.Core.Logic.{_↔_}
 use Prim.Native.Nat.{ℕ, _≤_}
@@ -177,7 +177,7 @@ module _ (j : Journal) (by to on right : ℕ) where
   unfolding any
   only-depth depth k only x s =
       iff _ _
-      (λ e. let q : grant to on right depth ≡ x = same-grant _ _ (sym (or-none (sameGrant (grant to on right depth) x)) ∙ e) in
+      (λ e. let q : grant to on right depth ≡ x = same-grant _ _ (sym (or-false (sameGrant (grant to on right depth) x)) ∙ e) in
       subst (λ y. among (ofEachDepth to on right) y ≡ true) q
       (each-depth to on right (grant to on right depth) k ∙ both (both (eqb-self to) (eqb-self on)) (eqb-self right)))
       (λ e. let f = find (λ d. sameGrant (grant to on right d) x) (λ d. leb d 7) depths small
@@ -186,10 +186,6 @@ module _ (j : Journal) (by to on right : ℕ) where
       let z : f .0 ≡ depth = only (f .0) (leb-true _ _ (f .1)) (ap (standing j) q ∙ s) in
       or-left (sameGrant (grant to on right depth) x) false
       (subst (λ (d : ℕ). sameGrant (grant to on right d) x ≡ true) z (f .2)))
-    where
-      or-none : (b : Bool) → b || false ≡ b
-      or-none true = refl
-      or-none false = refl
 
   pub journal-drop : (depth : ℕ) → Drops answered step standing (λ i n. n) j by to on right depth
   journal-drop depth = record {
