@@ -292,6 +292,10 @@ pub bits-step : (x y n i : ℕ) (v : Bool) (f : ℕ → Bool) → x ≡ ofBits n
     → y ≡ ofBits (n + 1) f
 bits-step x y n i v f e d b q = q ∙ rw (e, d, b) (bits-more n f)
 
+-- `a & !b`
+pub bit-outside : (w a b i : ℕ) → b < 2 ^ w → i < w → bit (bitAnd a (2 ^ w - 1 - b)) i ≡ bit a i && not (bit b i)
+bit-outside w a b i k l = bit-and a (2 ^ w - 1 - b) i ∙ ap (λ x. bit a i && x) (bit-complement w b i k l)
+
 -- each bit of a is one of b
 unfoldable pub within : ℕ → ℕ → ℕ → Bool
 within w a b = allBelow w (λ i. not (bit a i) || bit b i)
@@ -302,13 +306,10 @@ unfolding within
 machine-outside w a b k =
     iff (eqb (bitAnd a (2 ^ w - 1 - b)) 0) (allBelow w (λ i. not (bit a i) || bit b i))
     (λ t. below-intro w _ (λ i l. covers (bit a i) (bit b i)
-    (sym (left i l) ∙ ap (λ (x : ℕ). bit x i) (eqb-true (bitAnd a (2 ^ w - 1 - b)) 0 t) ∙ bit-of-zero i)))
+    (sym (bit-outside w a b i k l) ∙ ap (λ (x : ℕ). bit x i) (eqb-true (bitAnd a (2 ^ w - 1 - b)) 0 t) ∙ bit-of-zero i)))
     (λ t. eq-eqb _ 0 (zero-of-bits w _ (omega (arith, and-le-r a (2 ^ w - 1 - b)))
-    (λ i l. left i l ∙ covered (bit a i) (bit b i) (below-elim w _ t i l))))
+    (λ i l. bit-outside w a b i k l ∙ covered (bit a i) (bit b i) (below-elim w _ t i l))))
   where
-    left : (i : ℕ) → i < w → bit (bitAnd a (2 ^ w - 1 - b)) i ≡ bit a i && not (bit b i)
-    left i l = bit-and a (2 ^ w - 1 - b) i ∙ ap (λ x. bit a i && x) (bit-complement w b i k l)
-
     covers : (x y : Bool) → x && not y ≡ false → not x || y ≡ true
     covers true true e = refl
     covers true false e = sym e

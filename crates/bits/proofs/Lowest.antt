@@ -1,19 +1,18 @@
 -- The lowest bit of a number, and the bits of numbers made of parts.
-use mathlib.Core.Path.{_≡_, refl, sym, ap, ap₂, _∙_}
-use mathlib.Core.Bool.{Bool, true, cond, false≢true}
+use mathlib.Core.Path.{_≡_, refl, sym, ap, _∙_}
+use mathlib.Core.Bool.{true, cond, false≢true}
 use mathlib.Core.Logic.{_⊎_, inl, inr}
 use Prim.Native.Nat.{ℕ, suc, zero, _+_, _-_, _*_, _/_, _%_, _^_, _<_}
 use native.Mathlib.Omega.{arith}
 use native.Mathlib.Nat.{pow-succ', mod-lt, div-add-mod', div-div-eq-div-mul}
-use native.Mathlib.Numerals.{add-one}
 use borrow.Author.Tests.{eqb-true, eqb-false, ltb-true, lt-ltb, le-ltb, ltb-false}
 use lib.Dec.{eqb, ltb}
 use lib.Bits.{bitAnd, and-step, and-self, block-half, block-odd}
 use lib.Count.{trailingZeros, under}
 use lib.Pow.{pow-pos, pow-add}
-use Rattle.bits.specs.Bits.{bit, withoutBit, ofBits}
+use Rattle.bits.specs.Bits.{bit, withoutBit}
 use Rattle.bits.proofs.Sets.{iff, by-cases}
-use Rattle.bits.proofs.Bits.{bit-zero, bit-suc, ofBits-cong, bit-high}
+use Rattle.bits.proofs.Bits.{bit-zero, bit-suc, bit-high}
 
 -- ---- the lowest bit of a number
 lowest : (d t n : ℕ) → n % 2 ≡ d → d < 2 → (bit (n / 2) t ≡ true) ⊎ (d ≡ 1) → bit n (under d t) ≡ true
@@ -90,13 +89,3 @@ bit-part n j w i l =
   where
     shifted : bit (n / 2 ^ j) i ≡ bit n (j + i)
     shifted = unfold bit in (ap (λ (x : ℕ). eqb (x % 2) 1) (div-div-eq-div-mul n (2 ^ j) (2 ^ i) ∙ ap (λ (x : ℕ). n / x) (sym (pow-add 2 j i))))
-
--- a turn of a loop that gathers n bits, the highest first
-pub bits-down : (f : ℕ → Bool) (n b x d : ℕ) → b < n → x ≡ ofBits b (λ i. f (n - b + i)) → d ≡ cond (f (n - b - 1)) 1 0
-    → x * 2 + d ≡ ofBits (b + 1) (λ i. f (n - (b + 1) + i))
-unfolding ofBits
-bits-down f n b x d l e q =
-    rw (add-one b)
-    (ap₂ (λ (x y : ℕ). x * 2 + y)
-    (e ∙ ofBits-cong b _ _ (λ i h. ap f (let z : n - b + i ≡ n - suc b + suc i = omega arith in z)))
-    (q ∙ ap (λ (y : ℕ). cond (f y) 1 0) (let z : n - b - 1 ≡ n - suc b + 0 = omega arith in z)))

@@ -1,22 +1,22 @@
 -- An image that is made block by block, of cells of any width: the live set first, then the places, where the bits of the blocks to
 -- come are still left out. A block's bits are told apart by their place in it, below 64.
 use mathlib.Core.Path.{_≡_, refl, sym, ap, _∙_}
-use mathlib.Core.Bool.{Bool, true, false, not, _&&_, _||_, cond, and-true, and-false, or-false}
+use mathlib.Core.Bool.{Bool, true, false, not, _&&_, _||_, cond, and-true, and-false, or-true, or-false}
 use mathlib.Core.List.{List}
 use Prim.Native.Nat.{ℕ, _+_, _-_, _*_, _≤_, _<_, _/_, _%_}
 use native.Mathlib.Omega.{arith}
 use borrow.Author.Tests.{eqb-true, eqb-false, ltb-true, ltb-false, lt-ltb, le-ltb, le-leb, leb-true, leb-false, lt-leb}
-use lib.ListN.{length, getD, set}
+use lib.ListN.{length, getD, set, length-set}
 use lib.Seq.{getD-set-same, getD-set-other}
 use lib.Pow.{pow-pos}
 use native.Mathlib.Nat.{div-lt-iff-lt-mul, le-div-iff-mul-le}
 use lib.Dec.{eqb, ltb, leb}
-use Rattle.bits.specs.Bits.{bit, withoutBit}
+use Rattle.bits.specs.Bits.{bit, withBit, withoutBit}
 use Rattle.bits.specs.Cells.{at}
 use Rattle.bits.proofs.Sets.{iff, by-cases}
 use Rattle.bits.proofs.Bits.{bit-of-zero, bit-without}
 use Rattle.bits.proofs.Cells.{length-image, image-lt, at-image, image-cong}
-use Rattle.bits.proofs.Marks.{Cells, image-is}
+use Rattle.bits.proofs.Marks.{Cells, image-is, cells-marked, at-marked}
 use Rattle.convert.specs.Blocks.{lacking, ahead}
 
 -- bit j is of a later block, or of block t at a place that is in rest
@@ -124,6 +124,19 @@ module _ (w n : ℕ) (pos : 0 < w) (s : List ℕ) where
             (value (at w s j) (leb 64 j) (eqb t (block (j - 64))) (eqb (place (j - 64)) b) (bit rest (place (j - 64)))
             (ltb t (block (j - 64)))
             (λ z. le-ltb t (block (j - 64)) (omega (arith, eqb-true t (block (j - 64)) z))))
+
+    -- a bit put in, the only one of its place
+    pub put-bit : (t rest b c i : ℕ) (m : List ℕ) → c < n → i < w → m ≡ lacking w n (pending block place t rest) s
+        → at w s (c * w + i) ≡ true → ((j : ℕ) → j < n * w → eqb j (c * w + i) ≡ placed block place t b j)
+        → set m c (withBit (getD m c 0) i) ≡ lacking w n (pending block place t (withoutBit rest b)) s
+    put-bit t rest b c i m h k e y d =
+        let l : length m ≡ n = rw e (lacking-length _) in
+        put-place t rest b m (set m c (withBit (getD m c 0) i)) e (length-set m c _ ∙ l)
+        (cells-marked w pos m c i k (omega arith) (rw e (lacking-cells _)))
+        (λ j g. at-marked w pos m c i k j (omega arith)
+        ∙ by-cases (eqb j (c * w + i))
+        (λ z. rw (← (d j g), z, eqb-true j (c * w + i) z, y) (or-true (at w m (c * w + i))))
+        (λ z. rw (← (d j g), z) (or-false (at w m j))))
 
     -- after the last block
     pub end-blocks : (t : ℕ) → length s ≡ n → Cells w s → ((k : ℕ) → 64 + k < n * w → block k < t) → lacking w n (ahead block t) s ≡ s

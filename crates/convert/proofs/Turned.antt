@@ -1,34 +1,47 @@
 -- Where each bit of a conversion comes from, and what a turn of its loops puts in.
-use mathlib.Core.Path.{_≡_, refl, sym, ap, _∙_}
-use mathlib.Core.Bool.{Bool, true, false, cond, false≢true, or-true, or-false}
+use mathlib.Core.Path.{_≡_, refl, sym, ap, ap₂, _∙_}
+use mathlib.Core.Bool.{Bool, true, false, not, _&&_, cond, false≢true, and-comm, and-true}
 use mathlib.Core.List.{List}
 use Prim.Native.Nat.{ℕ, _+_, _-_, _*_, _/_, _%_, _^_, _≤_, _<_}
 use native.Mathlib.Omega.{arith}
-use borrow.Author.Tests.{le-leb, leb-true, eq-eqb, eqb-true, ltb-true, ltb-false}
+use borrow.Author.Tests.{le-leb, leb-true, eq-eqb, eqb-true, ltb-true, ltb-false, not-true}
 use lib.ListN.{length, getD, set, length-set}
 use lib.Seq.{getD-set-same, getD-set-other}
 use lib.Dec.{eqb, ltb, leb}
+use lib.Bits.{bitAnd, and-le-l}
 use lib.Pow.{pow-mono, pow-add}
-use Rattle.bits.specs.Sets.{anyBelow}
-use Rattle.bits.specs.Bits.{bit, withBit, withoutBit, ofBits, orBelow}
+use Rattle.bits.specs.Sets.{allBelow}
+use Rattle.bits.specs.Bits.{bit, withBit, withoutBit, ofBits}
 use Rattle.bits.specs.Cells.{at}
 use Rattle.layouts.specs.Layouts.{lists, rows}
 use Rattle.layouts.specs.Convert.{convert}
 use Rattle.bits.proofs.Sets.{iff, fst, snd, both, by-cases}
-use Rattle.bits.proofs.Indexed.{some-intro}
-use Rattle.bits.proofs.Bits.{ext, ofBits-lt, bit-ofBits, ofBits-cong}
+use Rattle.bits.proofs.Indexed.{below-elim, below-none, below-suc}
+use Rattle.bits.proofs.Bits.{ext, ofBits-lt, bit-ofBits, ofBits-cong, bit-and, bit-complement, bit-of-zero}
 use Rattle.bits.proofs.Lowest.{bit-block}
-use Rattle.bits.proofs.Scan.{or-bit-below}
 use Rattle.layouts.proofs.Edits.{lists-flat, rows-flat}
-use Rattle.bits.proofs.Marks.{cell-bit, cells-set, cells-marked, at-marked}
+use Rattle.bits.proofs.Marks.{cell-bit, cells-set}
 use Rattle.layouts.proofs.Convert.{convert-live, convert-bit, convert-length, convert-cells, convert-cell}
-use Rattle.convert.specs.Blocks.{lacking, ahead}
-use Rattle.convert.proofs.Pending.{pending, placed, lacking-length, lacking-cells, open-block, close-block, put-place, end-blocks, at-put, begin-cells}
+use Rattle.convert.specs.Blocks.{lacking, ahead, fullOn, stage}
+use Rattle.convert.proofs.Pending.{pending, placed, lacking-length, lacking-cells, open-block, close-block, put-place, put-bit, end-blocks, at-put, begin-cells}
 
-none-below : (n : ℕ) (f : ℕ → Bool) (k : ℕ) → anyBelow n f ≡ false → k < n → f k ≡ false
-none-below n f k h l = by-cases (f k) (λ t. absurd (false≢true (sym h ∙ some-intro n f k l t))) (λ t. t)
+-- ---- lists to rows: the persons of every list so far
+pub full-none : (f : ℕ → ℕ) → 18446744073709551615 ≡ ofBits 64 (λ p. allBelow 0 (λ r. bit (f r) p))
+full-none f =
+    ext 64 18446744073709551615 _ (omega arith) (ofBits-lt 64 _)
+    (λ i l. bit-complement 64 0 i (omega arith) l ∙ ap not (bit-of-zero i)
+    ∙ sym (bit-ofBits 64 (λ p. allBelow 0 (λ r. bit (f r) p)) i l ∙ below-none _))
 
--- ---- lists to rows: the bit of a right in lists
+pub full-more : (bits x n : ℕ) (f : ℕ → ℕ) → bits ≡ ofBits 64 (λ p. allBelow n (λ r. bit (f r) p)) → x ≡ f n
+    → bitAnd bits x ≡ ofBits 64 (λ p. allBelow (n + 1) (λ r. bit (f r) p))
+full-more bits x n f e d =
+    ext 64 (bitAnd bits x) _ (omega (arith, and-le-l bits x, ofBits-lt 64 (λ p. allBelow n (λ r. bit (f r) p)))) (ofBits-lt 64 _)
+    (λ i l. bit-and bits x i
+    ∙ ap₂ _&&_ (ap (λ (y : ℕ). bit y i) e ∙ bit-ofBits 64 (λ p. allBelow n (λ r. bit (f r) p)) i l) (ap (λ (y : ℕ). bit y i) d)
+    ∙ and-comm (allBelow n (λ r. bit (f r) i)) (bit (f n) i) ∙ sym (below-suc n (λ r. bit (f r) i))
+    ∙ sym (bit-ofBits 64 (λ p. allBelow (n + 1) (λ r. bit (f r) p)) i l))
+
+-- the bit of a right in lists
 in-list : (p on b : ℕ) → p < 64 → on < 64 → b < 8
     → 64 + ((8 * ((8 * (64 * p + on) + b) / 8 % 64) + (8 * (64 * p + on) + b) % 8) * 64 + (8 * (64 * p + on) + b) / 512)
     ≡ (1 + 8 * on + b) * 64 + p % 64
@@ -38,18 +51,15 @@ in-list p on b h k l =
     let q : (8 * (64 * p + on) + b) / 512 ≡ p = omega arith in
     rw (o, r, q) (omega arith)
 
--- byte c of rows is of person p and item on
-column-bit : (on p j : ℕ) → on < 64 → p < 64 → eqb (j / 8) (8 + 64 * p + on) ≡ placed (rows .item) (rows .person) on p j
-unfolding rows
-column-bit on p j h k =
-    iff _ _
-    (λ t. let e = eqb-true (j / 8) (8 + 64 * p + on) t in
-    both (le-leb 64 j (omega arith)) (both (eq-eqb on ((j - 64) / 8 % 64) (omega arith)) (eq-eqb ((j - 64) / 512) p (omega arith))))
-    (λ t. let u = leb-true 64 j (fst (leb 64 j) _ t) in
-    let v = snd (leb 64 j) _ t in
-    let x = eqb-true on ((j - 64) / 8 % 64) (fst _ (eqb ((j - 64) / 512) p) v) in
-    let y = eqb-true ((j - 64) / 512) p (snd (eqb on ((j - 64) / 8 % 64)) _ v) in
-    eq-eqb (j / 8) (8 + 64 * p + on) (omega arith))
+-- the byte of eight rights
+every : 255 ≡ ofBits 8 (λ (b : ℕ). true)
+unfolding ofBits
+every = refl
+
+-- the number of a block is that of its item, and of the right that is left where the person has not every right
+nine : (i on x r : ℕ) (v : Bool) → r < 8 → x < 9 → 9 * i + cond v 0 (1 + r) ≡ 9 * on + x → (i ≡ on) × (cond v 0 (1 + r) ≡ x)
+nine i on x r true h l e = (omega arith, omega arith)
+nine i on x r false h l e = (omega arith, omega arith)
 
 module _ (s : List ℕ) where
   pub row-live : (k b : ℕ) → k < 8 → b < 8 → at 8 (convert lists rows s) (k * 8 + b) ≡ bit (getD s 0 0) ((8 * k + b) % 64)
@@ -66,69 +76,156 @@ module _ (s : List ℕ) where
       ∙ convert-bit lists rows lists-flat rows-flat s (8 * (64 * p + on) + b) (omega arith)
       ∙ cell-bit 64 (omega arith) s (1 + 8 * on + b) (p % 64) (omega arith) _ (in-list p on b h k l)
 
-  -- the digit of turn b, right 7 first
-  pub row-digit : (p on b d : ℕ) (v : Bool) → p < 64 → on < 64 → b < 8 → v ≡ bit (getD s (8 + 8 * on - b) 0) (p % 64) → d ≡ cond v 1 0
-      → d ≡ cond (at 8 (convert lists rows s) ((8 + 64 * p + on) * 8 + (8 - b - 1))) 1 0
-  row-digit p on b d v h k l e q =
-      let z : 8 + 8 * on - b ≡ 1 + 8 * on + (8 - b - 1) = omega arith in
-      q ∙ rw (e, z, row-grant p on (8 - b - 1) h k (omega arith))
+  -- the block of a place, both ways
+  stage-is : (k on p : ℕ) → k / 8 % 64 ≡ on → k / 512 ≡ p → stage s k ≡ 9 * on + cond (bit (fullOn s on) p) 0 (1 + k % 8)
+  unfolding rows stage
+  stage-is k on p e d = rw (e, d)
+
+  first-stage : (k on : ℕ) → stage s k ≡ 9 * on → (k / 8 % 64 ≡ on) × (bit (fullOn s on) (k / 512) ≡ true)
+  first-stage k on e =
+      let n = nine (k / 8 % 64) on 0 (k % 8) (bit (fullOn s (k / 8 % 64)) (k / 512)) (omega arith) (omega arith)
+      (sym (stage-is k _ _ refl refl) ∙ e ∙ (let z : 9 * on ≡ 9 * on + 0 = omega arith in z)) in
+      (n .0, rw (← (n .0)) (has _ (n .1)))
+    where
+      has : (v : Bool) → cond v 0 (1 + k % 8) ≡ 0 → v ≡ true
+      has true e = refl
+      has false e = absurd (omega arith)
+
+  later-stage : (k on r : ℕ) → r < 8 → stage s k ≡ 9 * on + 1 + r
+      → (k / 8 % 64 ≡ on) × (k % 8 ≡ r) × (bit (fullOn s on) (k / 512) ≡ false)
+  later-stage k on r h e =
+      let n = nine (k / 8 % 64) on (1 + r) (k % 8) (bit (fullOn s (k / 8 % 64)) (k / 512)) (omega arith) (omega arith)
+      (sym (stage-is k _ _ refl refl) ∙ e ∙ (let z : 9 * on + 1 + r ≡ 9 * on + (1 + r) = omega arith in z)) in
+      let q = has _ (n .1) in
+      (n .0, q .0, rw (← (n .0)) (q .1))
+    where
+      has : (v : Bool) → cond v 0 (1 + k % 8) ≡ 1 + r → (k % 8 ≡ r) × (v ≡ false)
+      has true e = absurd (omega arith)
+      has false e = (omega arith, refl)
 
   pub rows-begin : (m : List ℕ) → length m ≡ 4104 → ((i : ℕ) → i < 8 → getD m i 0 ≡ getD (convert lists rows s) i 0)
       → ((i : ℕ) → 8 ≤ i → getD m i 0 ≡ 0)
-      → m ≡ lacking 8 4104 (ahead (rows .item) 0) (convert lists rows s)
+      → m ≡ lacking 8 4104 (ahead (stage s) 0) (convert lists rows s)
   unfolding rows
   rows-begin m l a b =
-      begin-cells 8 4104 8 (omega arith) (convert lists rows s) m (rows .item) (rows .person) refl
+      begin-cells 8 4104 8 (omega arith) (convert lists rows s) m (stage s) (rows .person) refl
       (convert-length lists rows lists-flat rows-flat s)
       (convert-cells lists rows lists-flat rows-flat s) l a b
 
-  -- persons of no list of the item have no right on it
-  pub rows-open : (on rest : ℕ) → on < 64 → rest ≡ orBelow 8 (λ i. getD s (1 + 8 * on + i) 0)
-      → lacking 8 4104 (ahead (rows .item) on) (convert lists rows s) ≡ lacking 8 4104 (pending (rows .item) (rows .person) on rest)
-      (convert lists rows s)
+  -- ---- the persons with every right on an item: the block has no others
+  pub full-open : (on : ℕ) → lacking 8 4104 (ahead (stage s) (9 * on)) (convert lists rows s)
+      ≡ lacking 8 4104 (pending (stage s) (rows .person) (9 * on) (fullOn s on)) (convert lists rows s)
   unfolding rows
-  rows-open on rest h e =
-      open-block 8 4104 (omega arith) (convert lists rows s) (rows .item) (rows .person) on rest
-      (λ k l q n. let p : k / 512 % 64 ≡ k / 512 = omega arith in
-      ap (at 8 (convert lists rows s)) (let z : 64 + k ≡ (8 + 64 * (k / 512) + on) * 8 + k % 8 = omega arith in z)
-      ∙ row-grant (k / 512) on (k % 8) (omega arith) h (omega arith)
-      ∙ rw p
-      (none-below 8 (λ i. bit (getD s (1 + 8 * on + i) 0) (k / 512)) (k % 8)
-      (sym (or-bit-below 8 (λ i. getD s (1 + 8 * on + i) 0) (k / 512)) ∙ ap (λ (x : ℕ). bit x (k / 512)) (sym e) ∙ n) (omega arith)))
+  full-open on =
+      open-block 8 4104 (omega arith) (convert lists rows s) (stage s) (rows .person) (9 * on) (fullOn s on)
+      (λ k l q n. absurd (false≢true (sym n ∙ first-stage k on q .1)))
 
-  -- a byte put in
-  pub rows-put : (on p rest left v : ℕ) (m : List ℕ) → on < 64 → p < 64
-      → m ≡ lacking 8 4104 (pending (rows .item) (rows .person) on rest) (convert lists rows s)
-      → v ≡ getD (convert lists rows s) (8 + 64 * p + on) 0 → left ≡ withoutBit rest p
-      → set m (8 + 64 * p + on) v ≡ lacking 8 4104 (pending (rows .item) (rows .person) on left) (convert lists rows s)
+  -- byte c of rows is of person p and item on
+  full-byte : (on p j : ℕ) → on < 64 → p < 64 → bit (fullOn s on) p ≡ true
+      → eqb (j / 8) (8 + 64 * p + on) ≡ placed (stage s) (rows .person) (9 * on) p j
   unfolding rows
-  rows-put on p rest left v m h k e q z =
+  full-byte on p j h k f =
+      iff _ _
+      (λ t. let e = eqb-true (j / 8) (8 + 64 * p + on) t in
+      let z = stage-is (j - 64) on p (omega arith) (omega arith) in
+      let n : 9 * on + 0 ≡ 9 * on = omega arith in
+      both (le-leb 64 j (omega arith))
+      (both (eq-eqb (9 * on) (stage s (j - 64)) (sym ((rw f at z) ∙ n))) (eq-eqb ((j - 64) / 512) p (omega arith))))
+      (λ t. let u = leb-true 64 j (fst (leb 64 j) _ t) in
+      let v = snd (leb 64 j) _ t in
+      let x = first-stage (j - 64) on (sym (eqb-true (9 * on) (stage s (j - 64)) (fst _ (eqb ((j - 64) / 512) p) v))) .0 in
+      let y = eqb-true ((j - 64) / 512) p (snd (eqb (9 * on) (stage s (j - 64))) _ v) in
+      eq-eqb (j / 8) (8 + 64 * p + on) (omega arith))
+
+  full-value : (on p : ℕ) → on < 64 → p < 64 → bit (fullOn s on) p ≡ true → 255 ≡ getD (convert lists rows s) (8 + 64 * p + on) 0
+  unfolding rows fullOn
+  full-value on p h k f =
+      every ∙ ofBits-cong 8 (λ (b : ℕ). true) (λ b. at 8 (convert lists rows s) ((8 + 64 * p + on) * 8 + b))
+      (λ b l. sym (row-grant p on b k h l ∙ rw (let z : p % 64 ≡ p = omega arith in z)
+      (below-elim 8 (λ r. bit (getD s (1 + 8 * on + r) 0) p) (sym (bit-ofBits 64 _ p k) ∙ f) b l)))
+      ∙ convert-cell lists rows lists-flat rows-flat s (8 + 64 * p + on) (omega arith)
+
+  pub full-put : (on p rest left : ℕ) (m : List ℕ) → on < 64 → p < 64
+      → m ≡ lacking 8 4104 (pending (stage s) (rows .person) (9 * on) rest) (convert lists rows s)
+      → bit (fullOn s on) p ≡ true → left ≡ withoutBit rest p
+      → set m (8 + 64 * p + on) 255 ≡ lacking 8 4104 (pending (stage s) (rows .person) (9 * on) left) (convert lists rows s)
+  unfolding rows
+  full-put on p rest left m h k e f z =
       let t = convert lists rows s in
       let c = 8 + 64 * p + on in
       let l : length m ≡ 4104 = rw e (lacking-length 8 4104 (omega arith) t _) in
-      let n : length t ≡ 4104 = convert-length lists rows lists-flat rows-flat s in
       rw z
-      (put-place 8 4104 (omega arith) t (rows .item) (rows .person) on rest p m (set m c v) e (length-set m c v ∙ l)
-      (cells-set 8 (omega arith) m c v (rw e (lacking-cells 8 4104 (omega arith) t _))
-      (rw q (convert-cells lists rows lists-flat rows-flat s c (omega arith))))
-      (λ j b. at-put 8 m t c v j (omega arith) q ∙ ap (λ y. cond y (at 8 t j) (at 8 m j)) (column-bit on p j h k)))
+      (put-place 8 4104 (omega arith) t (stage s) (rows .person) (9 * on) rest p m (set m c 255) e (length-set m c 255 ∙ l)
+      (cells-set 8 (omega arith) m c 255 (rw e (lacking-cells 8 4104 (omega arith) t _)) (omega arith))
+      (λ j b. at-put 8 m t c 255 j (omega arith) (full-value on p h k f) ∙ ap (λ y. cond y (at 8 t j) (at 8 m j)) (full-byte on p j h k f)))
 
-  pub rows-close : (on rest : ℕ) → rest ≡ 0
-      → lacking 8 4104 (pending (rows .item) (rows .person) on rest) (convert lists rows s) ≡ lacking 8 4104 (ahead (rows .item) (on + 1))
-      (convert lists rows s)
-  rows-close on rest e = rw e (close-block 8 4104 (omega arith) (convert lists rows s) (rows .item) (rows .person) on)
+  -- ---- a list of an item: the others of its persons
+  pub list-open : (on r rest : ℕ) → on < 64 → r < 8
+      → ((p : ℕ) → p < 64 → bit rest p ≡ bit (getD s (1 + 8 * on + r) 0) p && not (bit (fullOn s on) p))
+      → lacking 8 4104 (ahead (stage s) (9 * on + 1 + r)) (convert lists rows s)
+      ≡ lacking 8 4104 (pending (stage s) (rows .person) (9 * on + 1 + r) rest) (convert lists rows s)
+  unfolding rows
+  list-open on r rest h k e =
+      open-block 8 4104 (omega arith) (convert lists rows s) (stage s) (rows .person) (9 * on + 1 + r) rest
+      (λ j l q n. let z = later-stage j on r k q in
+      let p : j / 512 % 64 ≡ j / 512 = omega arith in
+      ap (at 8 (convert lists rows s)) (let y : 64 + j ≡ (8 + 64 * (j / 512) + on) * 8 + r = omega (arith, z .0, z .1) in y)
+      ∙ row-grant (j / 512) on r (omega arith) h k
+      ∙ rw p
+      (sym (and-true _) ∙ ap (λ x. bit (getD s (1 + 8 * on + r) 0) (j / 512) && not x) (sym (z .2)) ∙ sym (e (j / 512) (omega arith))
+      ∙ n))
 
-  pub rows-end : lacking 8 4104 (ahead (rows .item) 64) (convert lists rows s) ≡ convert lists rows s
+  list-bit : (on r p j : ℕ) → on < 64 → r < 8 → p < 64 → bit (fullOn s on) p ≡ false
+      → eqb j ((8 + 64 * p + on) * 8 + r) ≡ placed (stage s) (rows .person) (9 * on + 1 + r) p j
+  unfolding rows
+  list-bit on r p j h k l f =
+      iff _ _
+      (λ t. let e = eqb-true j ((8 + 64 * p + on) * 8 + r) t in
+      let z = stage-is (j - 64) on p (omega arith) (omega arith) in
+      let d : (j - 64) % 8 ≡ r = omega arith in
+      let n : 9 * on + (1 + r) ≡ 9 * on + 1 + r = omega arith in
+      both (le-leb 64 j (omega arith))
+      (both (eq-eqb (9 * on + 1 + r) (stage s (j - 64)) (sym ((rw (f, d) at z) ∙ n))) (eq-eqb ((j - 64) / 512) p (omega arith))))
+      (λ t. let u = leb-true 64 j (fst (leb 64 j) _ t) in
+      let v = snd (leb 64 j) _ t in
+      let x = later-stage (j - 64) on r k (sym (eqb-true (9 * on + 1 + r) (stage s (j - 64)) (fst _ (eqb ((j - 64) / 512) p) v))) in
+      let y = eqb-true ((j - 64) / 512) p (snd (eqb (9 * on + 1 + r) (stage s (j - 64))) _ v) in
+      eq-eqb j ((8 + 64 * p + on) * 8 + r) (omega (arith, x .0, x .1)))
+
+  pub list-put : (on r p rest left v : ℕ) (m : List ℕ) → on < 64 → r < 8 → p < 64
+      → m ≡ lacking 8 4104 (pending (stage s) (rows .person) (9 * on + 1 + r) rest) (convert lists rows s)
+      → bit (getD s (1 + 8 * on + r) 0) p && not (bit (fullOn s on) p) ≡ true
+      → v ≡ withBit (getD m (8 + 64 * p + on) 0) (r % 8) → left ≡ withoutBit rest p
+      → set m (8 + 64 * p + on) v ≡ lacking 8 4104 (pending (stage s) (rows .person) (9 * on + 1 + r) left) (convert lists rows s)
+  unfolding rows
+  list-put on r p rest left v m h k l e o q z =
+      let d : r % 8 ≡ r = omega arith in
+      let y : p % 64 ≡ p = omega arith in
+      let f : bit (fullOn s on) p ≡ false = not-true _ (snd (bit (getD s (1 + 8 * on + r) 0) p) _ o) in
+      rw (z, q, d)
+      (put-bit 8 4104 (omega arith) (convert lists rows s) (stage s) (rows .person) (9 * on + 1 + r) rest p (8 + 64 * p + on) r m
+      (omega arith) k e (row-grant p on r l h k ∙ rw y (fst _ (not (bit (fullOn s on) p)) o)) (λ j b. list-bit on r p j h k l f))
+
+  -- the end of a block, and of the last
+  pub rows-close : (t u rest : ℕ) → rest ≡ 0 → u ≡ t + 1
+      → lacking 8 4104 (pending (stage s) (rows .person) t rest) (convert lists rows s)
+      ≡ lacking 8 4104 (ahead (stage s) u) (convert lists rows s)
+  rows-close t u rest e d = rw (e, d) (close-block 8 4104 (omega arith) (convert lists rows s) (stage s) (rows .person) t)
+
+  pub rows-end : lacking 8 4104 (ahead (stage s) 576) (convert lists rows s) ≡ convert lists rows s
   unfolding rows
   rows-end =
-      end-blocks 8 4104 (omega arith) (convert lists rows s) (rows .item) (rows .person) 64
+      end-blocks 8 4104 (omega arith) (convert lists rows s) (stage s) (rows .person) 576
       (convert-length lists rows lists-flat rows-flat s)
-      (convert-cells lists rows lists-flat rows-flat s) (λ k l. omega arith)
+      (convert-cells lists rows lists-flat rows-flat s)
+      (λ k l. rw (stage-is k _ _ refl refl)
+      (last (k / 8 % 64) (k % 8) (bit (fullOn s (k / 8 % 64)) (k / 512)) (omega arith) (omega arith)))
+    where
+      last : (i r : ℕ) (v : Bool) → i < 64 → r < 8 → 9 * i + cond v 0 (1 + r) < 576
+      last i r true h k = omega arith
+      last i r false h k = omega arith
 
 -- ---- eight bytes as a word
-pub half-full : (b x : ℕ) (f : ℕ → Bool) → b < 8 → x ≡ ofBits b f → x < 128
-half-full b x f l e = let m : 2 ^ b ≤ 2 ^ 7 = pow-mono (let z : b ≤ 7 = omega arith in z) in omega (arith, ofBits-lt b f)
-
 module _ (s : List ℕ) (first n bits x : ℕ) (l : n < 8) (e : bits ≡ ofBits (8 * n) (λ i. at 8 s (8 * (first + 8 - n) + i))) where
   pub eight-room : bits < 72057594037927936
   eight-room =
@@ -265,18 +362,11 @@ module _ (s : List ℕ) where
       → set m (1 + 64 * (t % 8) + b) v ≡ lacking 64 513 (pending eights eighth t left) (convert rows lists s)
   unfolding lists
   lists-put t b p rest left v m h k r e o q z =
-      let x = convert rows lists s in
-      let c = 1 + 64 * (t % 8) + b in
       let d : p ≡ t / 8 = omega arith in
-      let l : length m ≡ 513 = rw e (lacking-length 64 513 (omega arith) x _) in
-      let y : at 64 x (c * 64 + t / 8) ≡ true = list-grant t b h k ∙ sym (bit-ofBits 64 (λ i. at 8 s (8 * (8 + 8 * t) + i)) b k) ∙ o in
       rw (z, q, d)
-      (put-place 64 513 (omega arith) x eights eighth t rest b m (set m c (withBit (getD m c 0) (t / 8))) e (length-set m c _ ∙ l)
-      (cells-marked 64 (omega arith) m c (t / 8) (omega arith) (omega arith) (rw e (lacking-cells 64 513 (omega arith) x _)))
-      (λ j g. at-marked 64 (omega arith) m c (t / 8) (omega arith) j (omega arith)
-      ∙ by-cases (eqb j (c * 64 + t / 8))
-      (λ w. rw (← (eight-bit t b j h k g), w, eqb-true j (c * 64 + t / 8) w, y) (or-true (at 64 m (c * 64 + t / 8))))
-      (λ w. rw (← (eight-bit t b j h k g), w) (or-false (at 64 m j)))))
+      (put-bit 64 513 (omega arith) (convert rows lists s) eights eighth t rest b (1 + 64 * (t % 8) + b) (t / 8) m (omega arith)
+      (omega arith) e (list-grant t b h k ∙ sym (bit-ofBits 64 (λ i. at 8 s (8 * (8 + 8 * t) + i)) b k) ∙ o)
+      (λ j g. eight-bit t b j h k g))
 
   pub lists-close : (t rest : ℕ) → rest ≡ 0
       → lacking 64 513 (pending eights eighth t rest) (convert rows lists s) ≡ lacking 64 513 (ahead eights (t + 1)) (convert rows lists s)

@@ -1,5 +1,5 @@
-// Lists turned into rows, and rows into lists: the live set first, then the grants, 64 places of the target at a time. Only places
-// with a grant are visited.
+// Lists turned into rows, and rows into lists: the live set first, then the grants, block by block. Only places with a grant are
+// visited.
 use bits::byte;
 use bits::bytes;
 use bits::word;
@@ -8,15 +8,15 @@ use lists::Lists;
 use model::Answer;
 use rows::Rows;
 ghost use mathlib.Core.Path.{_≡_};
-ghost use mathlib.Core.Bool.{true, cond};
+ghost use mathlib.Core.Bool.{true};
 ghost use Prim.Native.Nat.{ℕ, _+_, _*_, _/_, _%_, _≤_, _<_};
 ghost use lib.Count.{trailingZeros};
 ghost use lib.ListN.{length, getD};
-ghost use Rattle.bits.specs.Bits.{bit, withoutBit, ofBits, orBelow};
+ghost use Rattle.bits.specs.Bits.{bit, withoutBit, ofBits};
 ghost use Rattle.bits.specs.Cells.{at};
 ghost use Rattle.layouts.specs.Layouts.{lists, rows, listWords, rowBytes};
 ghost use Rattle.layouts.specs.Convert.{convert, Converts};
-ghost use Rattle.convert.specs.Blocks.{lacking, ahead};
+ghost use Rattle.convert.specs.Blocks.{lacking, ahead, fullOn, stage};
 
 // The place of the lowest bit, and the word without that bit.
 fn lowest(w: u64) -> u32
@@ -31,12 +31,6 @@ fn without_lowest(w: u64) -> u64
     ensures { λ r. ⌜ (r ≡ withoutBit w (trailingZeros 64 w)) × (r < w) ⌝ }
 {
     w & (w - 1)
-}
-
-fn digit(set: bool) -> u8
-    ensures { λ r. ⌜ (r ≡ cond set 1 0) × (r ≤ 1) ⌝ }
-{
-    if set { 1 } else { 0 }
 }
 
 // Byte k of the live set.
@@ -57,7 +51,8 @@ fn live_byte(source: &[u64], k: usize) -> u8
 // Rows of the live set alone, whatever the target held.
 fn start_rows(target: &mut [u8], source: &[u64])
     requires { ⌜ (length (now source) ≡ listWords) × (length (now target) ≡ rowBytes) ⌝ }
-    ensures { λ _. ⌜ now (target .exit) ≡ lacking 8 rowBytes (ahead (rows .item) 0) (convert lists rows (now (source .entry))) ⌝ }
+    ensures { λ _. ⌜ now (target .exit) ≡ lacking 8 rowBytes (ahead (stage (now (source .entry))) 0)
+        (convert lists rows (now (source .entry))) ⌝ }
 {
     bytes::clear_each(target, 0, 1, Rows::BYTES);
     let mut k: usize = 0;
@@ -67,47 +62,62 @@ fn start_rows(target: &mut [u8], source: &[u64])
     }
 }
 
-// The rights of person p on an item: bit p of the item's eight lists, right 7 first.
-fn row_byte(source: &[u64], on: usize, p: u32) -> u8
-    requires { ⌜ (length (now source) ≡ listWords) × (on < 64) × (p < 64) ⌝ }
-    ensures { λ r. ⌜ r ≡ getD (convert lists rows (now (source .entry))) (8 + 64 * p + on) 0 ⌝ }
-{
-    let mut bits: u8 = 0;
-    let mut b: usize = 0;
-    while b < 8 {
-        let set = word::has(source[8 + 8 * on - b], p);
-        bits = bits * 2 + digit(set);
-        b += 1;
-    }
-    bits
-}
-
-// The persons with a right on an item.
-fn persons_on(source: &[u64], on: usize) -> u64
+// The persons with every right on an item.
+fn persons_with_all(source: &[u64], on: usize) -> u64
     requires { ⌜ (length (now source) ≡ listWords) × (on < 64) ⌝ }
-    ensures { λ r. ⌜ r ≡ orBelow 8 (λ (i : ℕ). getD (now (source .entry)) (1 + 8 * on + i) 0) ⌝ }
+    ensures { λ r. ⌜ r ≡ fullOn (now (source .entry)) on ⌝ }
 {
-    let mut set: u64 = 0;
+    let mut set: u64 = !0;
     let mut i: usize = 0;
     while i < 8 {
-        set = set | source[1 + 8 * on + i];
+        set = set & source[1 + 8 * on + i];
         i += 1;
     }
     set
 }
 
-// The bytes of one item, in the row of each person with a right on it.
-fn put_column(target: &mut [u8], source: &[u64], on: usize)
-    requires { ⌜ (length (now source) ≡ listWords) × (on < 64)
-        × (now target ≡ lacking 8 rowBytes (ahead (rows .item) on) (convert lists rows (now source))) ⌝ }
-    ensures { λ _. ⌜ now (target .exit) ≡ lacking 8 rowBytes (ahead (rows .item) (on + 1)) (convert lists rows (now (source .entry))) ⌝ }
+// One list of an item, a bit for each person but those with every right.
+fn put_list(target: &mut [u8], source: &[u64], on: usize, r: u32, full: u64)
+    requires { ⌜ (length (now source) ≡ listWords) × (on < 64) × (r < 8) × (full ≡ fullOn (now source) on)
+        × (now target ≡ lacking 8 rowBytes (ahead (stage (now source)) (9 * on + 1 + r)) (convert lists rows (now source))) ⌝ }
+    ensures { λ _. ⌜ now (target .exit) ≡ lacking 8 rowBytes (ahead (stage (now (source .entry))) (9 * on + 1 + (r + 1)))
+        (convert lists rows (now (source .entry))) ⌝ }
 {
-    let mut rest = persons_on(source, on);
+    let mut rest = source[1 + 8 * on + r as usize] & !full;
     while rest != 0 {
-        let p = lowest(rest);
-        target[8 + 64 * p as usize + on] = row_byte(source, on, p);
+        let k = 8 + 64 * lowest(rest) as usize + on;
+        target[k] = byte::with(target[k], r);
         rest = without_lowest(rest);
     }
+}
+
+fn put_lists(target: &mut [u8], source: &[u64], on: usize, full: u64)
+    requires { ⌜ (length (now source) ≡ listWords) × (on < 64) × (full ≡ fullOn (now source) on)
+        × (now target ≡ lacking 8 rowBytes (ahead (stage (now source)) (9 * on + 1)) (convert lists rows (now source))) ⌝ }
+    ensures { λ _. ⌜ now (target .exit) ≡ lacking 8 rowBytes (ahead (stage (now (source .entry))) (9 * (on + 1)))
+        (convert lists rows (now (source .entry))) ⌝ }
+{
+    let mut r: u32 = 0;
+    while r < 8 {
+        put_list(target, source, on, r, full);
+        r += 1;
+    }
+}
+
+// The bytes of one item: whole for each person with every right on it, and bit by bit for the others, most of whom have few.
+fn put_column(target: &mut [u8], source: &[u64], on: usize)
+    requires { ⌜ (length (now source) ≡ listWords) × (on < 64)
+        × (now target ≡ lacking 8 rowBytes (ahead (stage (now source)) (9 * on)) (convert lists rows (now source))) ⌝ }
+    ensures { λ _. ⌜ now (target .exit) ≡ lacking 8 rowBytes (ahead (stage (now (source .entry))) (9 * (on + 1)))
+        (convert lists rows (now (source .entry))) ⌝ }
+{
+    let full = persons_with_all(source, on);
+    let mut rest = full;
+    while rest != 0 {
+        target[8 + 64 * lowest(rest) as usize + on] = 255;
+        rest = without_lowest(rest);
+    }
+    put_lists(target, source, on, full);
 }
 
 fn fill_rows(target: &mut [u8], source: &[u64])

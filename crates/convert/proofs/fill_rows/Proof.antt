@@ -1,14 +1,14 @@
 -- After n turns the target is the image to come without the items from n on (`lacking`, `ahead`). Each place is of one of 64
 -- items, so at the end none is missing (`rows-end`).
 use mathlib.Core.Path.{_≡_, sym, ap, _∙_}
-use Prim.Native.Nat.{_-_, _≤_}
+use Prim.Native.Nat.{_-_, _*_, _≤_}
 use native.Mathlib.Omega.{arith}
 use borrow.Author.Needs.{needs}
 use lib.ListN.{length}
 use Rattle.bits.specs.Cells.{at}
 use Rattle.layouts.specs.Layouts.{lists, rows}
 use Rattle.layouts.specs.Convert.{convert}
-use Rattle.convert.specs.Blocks.{lacking, ahead}
+use Rattle.convert.specs.Blocks.{lacking, ahead, stage}
 use Rattle.convert.proofs.Pending.{lacking-length}
 use Rattle.convert.proofs.Turned.{rows-end}
 use Rattle.convert.proofs.fill_rows.Statement.{statement}
@@ -16,7 +16,7 @@ use Rattle.convert.proofs.fill_rows.Tie as tie
 
 abbrev Inv-loop : tie.InvT-loop
 Inv-loop target₀ source on₀ target on =
-    (on ≤ 64) × (length target ≡ 4104) × (target ≡ lacking 8 4104 (ahead (rows .item) on) (convert lists rows source))
+    (on ≤ 64) × (length target ≡ 4104) × (target ≡ lacking 8 4104 (ahead (stage source) (9 * on)) (convert lists rows source))
 
 abbrev μ-loop : tie.MeasureT-loop
 μ-loop target₀ source on₀ target on = 64 - on

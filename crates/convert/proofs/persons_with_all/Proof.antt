@@ -1,23 +1,24 @@
--- After i turns the word is the first i lists of the item ORed (`or-step`); at the end that is all eight.
-use mathlib.Core.Path.{_≡_, refl, sym}
+-- After i turns the word has the persons of each of the first i lists of the item (`full-more`), at first all 64 (`full-none`).
+use mathlib.Core.Path.{_≡_, refl}
 use Prim.Native.Nat.{ℕ, _+_, _-_, _*_, _≤_}
 use native.Mathlib.Omega.{arith}
 use borrow.Author.Needs.{needs}
-use lib.ListN.{getD, set}
-use Rattle.bits.specs.Cells.{at}
-use Rattle.bits.specs.Bits.{orBelow}
-use Rattle.bits.proofs.Scan.{or-none, or-step}
-use Rattle.convert.proofs.persons_on.Statement.{statement}
-use Rattle.convert.proofs.persons_on.Tie as tie
+use lib.ListN.{getD}
+use Rattle.bits.specs.Sets.{allBelow}
+use Rattle.bits.specs.Bits.{bit, ofBits}
+use Rattle.convert.specs.Blocks.{fullOn}
+use Rattle.convert.proofs.Turned.{full-none, full-more}
+use Rattle.convert.proofs.persons_with_all.Statement.{statement}
+use Rattle.convert.proofs.persons_with_all.Tie as tie
 
 abbrev Inv-loop : tie.InvT-loop
-Inv-loop source on set₀ i₀ set i = (i ≤ 8) × (set ≡ orBelow i (λ (k : ℕ). getD source (1 + 8 * on + k) 0))
+Inv-loop source on set₀ i₀ set i = (i ≤ 8) × (set ≡ ofBits 64 (λ (p : ℕ). allBelow i (λ (r : ℕ). bit (getD source (1 + 8 * on + r) 0) p)))
 
 abbrev μ-loop : tie.MeasureT-loop
 μ-loop source on set₀ i₀ set i = 8 - i
 
 loop-holds : tie.Need-loop-holds Inv-loop μ-loop
-loop-holds c = (search needs, sym (or-none _))
+loop-holds c = (search needs, full-none _)
 
 mul-set : tie.Need-mul-set Inv-loop μ-loop
 mul-set c = search needs
@@ -44,15 +45,16 @@ loop-again : tie.Need-loop-again Inv-loop μ-loop
 loop-again c =
     let l = c .before .before .loop in
     let a = c .before .before .before .args in
-    (search needs, or-step (l .set) _ (l .i) (λ (k : ℕ). getD (a .source .now) (1 + 8 * a .on + k) 0) (l .inv .1) refl)
+    (search needs, full-more (l .set) _ (l .i) (λ (r : ℕ). getD (a .source .now) (1 + 8 * a .on + r) 0) (l .inv .1) refl)
 
 returns : tie.Need-returns Inv-loop μ-loop
+unfolding fullOn
 returns c =
     let e : c .before .loop .i ≡ 8 = omega arith in
     rw e at (c .before .loop .inv .1)
 
-pub persons-on-spec : {M : Type 1} → statement M
-persons-on-spec =
+pub persons-with-all-spec : {M : Type 1} → statement M
+persons-with-all-spec =
     tie.close
     (tie.spec
     Inv-loop
