@@ -38,11 +38,15 @@ accepted s a f r m k e p q h =
 pub arm : (s x : Images) (a : Arguments) (v : Verb) → a .verb ≡ v → x ≡ chainDone s a v → x ≡ chainAfter s a
 arm s x a v e p = p ∙ sym (ap (chainDone s a) e)
 
+-- where a command was accepted, the loans are in order
+pub loans-ordered : (g t : List ℕ) (a : Arguments) → Accepted (images g t) a → Ordered t
+loans-ordered g t a k = ordered (liveIn grantBytes g) t (k .ready .loans) (snd (inOrder grantBytes g) _ (k .ready .ordered))
+
 -- a loan that was accepted has room
 pub room : (g t : List ℕ) (a : Arguments) (w : ℕ) → w ≡ wordOf (loanIn a) → a .verb ≡ verb.Lend → Accepted (images g t) a
     → Ordered t × ((leb mostLoans (countOf t) && not (any (eqb w) (used t))) ≡ false)
 room g t a w q e k = (
-  ordered (liveIn grantBytes g) t (k .ready .loans) (snd (inOrder grantBytes g) _ (k .ready .ordered)),
+  loans-ordered g t a k,
   subst (λ x. (leb mostLoans (countOf t) && not (any (eqb x) (used t))) ≡ false) (sym q)
       (subst (λ v. (knows v 10 && chainFacts (images g t) a .full) ≡ false) e
       (invariant.accepted (chainFacts (images g t) a) a (rw (ranged-fits a (k .ready .ranged)) (k .free)) .full)),

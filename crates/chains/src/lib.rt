@@ -19,9 +19,8 @@ use model::Typed;
 use model::Verb;
 use model::judge;
 ghost use mathlib.Core.Path.{_≡_};
-ghost use mathlib.Core.Bool.{true, not};
+ghost use mathlib.Core.Bool.{true};
 ghost use Prim.Native.Nat.{_≤_, _<_};
-ghost use lib.Dec.{eqb};
 ghost use lib.ListN.{length};
 ghost use Rattle.model.specs.declared.Command.the-variants.{Create, Delete, Allow, Withdraw, Lend, Recall, AllowSet, Drop};
 ghost use Rattle.model.specs.declared.Command.the-variants as command;
@@ -30,7 +29,7 @@ ghost use Rattle.model.specs.Answers.{numberOf};
 ghost use Rattle.layouts.specs.Machine.{Judged, Ran};
 ghost use Rattle.model.specs.Journal.{loanIn};
 ghost use Rattle.layouts.specs.Layouts.{grantCells};
-ghost use Rattle.delegation.specs.Loans.{wordOf, loanWords, loansKept, loansAt};
+ghost use Rattle.delegation.specs.Loans.{wordOf, loanWords, loansAt};
 ghost use Rattle.delegation.specs.Images.{images};
 ghost use Rattle.delegation.specs.ChainUnit.{chainUnit, chainGuarded, chainFacts, chainAfter, ChainChecks, ChainInspects, ChainFreshens};
 ghost use Rattle.chains.specs.Ready.{Ready, Accepted, withoutItem};
@@ -122,15 +121,7 @@ fn drop_item(grants: &mut [u8], loans: &mut [u32], on: Item)
         (on .0) ⌝ }
 {
     grants::drop_item(grants, on);
-    loans::retain(loans, Rule::Without(on));
-}
-
-// The loan out of the image.
-fn drop_loan(loans: &mut [u32], w: u32)
-    requires { ⌜ length (now loans) ≡ loanWords ⌝ }
-    ensures { λ _. ⌜ now (loans .exit) ≡ loansKept (λ x. not (eqb w x)) (now (loans .entry)) ⌝ }
-{
-    loans::retain(loans, Rule::Other(w));
+    loans::retain(loans, Rule { without: on });
 }
 
 // The shift into the image.
@@ -154,7 +145,7 @@ fn apply(grants: &mut [u8], loans: &mut [u32], t: Typed)
         Verb::Allow => grants::put_grant(grants, t.to, t.on, t.right, t.depth),
         Verb::Withdraw => grants::drop_grants(grants, t.to, t.on, t.right),
         Verb::Lend => loans::insert(loans, loan_word(t)),
-        Verb::Recall => drop_loan(loans, loan_word(t)),
+        Verb::Recall => loans::remove(loans, loan_word(t)),
         Verb::Shift => set_shift(loans, t.shift),
         Verb::AllowSet => grants::put_grants(grants, t.set, t.on, t.right, t.depth),
         Verb::Drop => grants::drop_grant(grants, t.to, t.on, t.right, t.depth),

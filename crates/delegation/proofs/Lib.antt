@@ -1,4 +1,5 @@
 pub mod Rising
+pub mod Below
 pub mod Loans
 pub mod Search
 pub mod ChainEnds

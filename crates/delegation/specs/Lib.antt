@@ -1,4 +1,5 @@
 pub mod Loans
+pub mod Below
 pub mod Images
 pub mod Search
 pub mod ChainUnit

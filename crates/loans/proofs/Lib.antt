@@ -1,3 +1,4 @@
 pub mod Loops
+pub mod Place
 pub mod Parts
 pub mod Standing

@@ -1,101 +1,95 @@
 -- Laws of the loops over a part of the loans image.
-use mathlib.Core.Path.{_≡_, refl, sym, ap, _∙_}
-use mathlib.Core.Bool.{Bool, true, false, _&&_, _||_, cond, false≢true}
-use mathlib.Core.List.{List, [], _∷_, _++_, append-nil, append-assoc}
+use mathlib.Core.Path.{_≡_, refl, sym, ap, ap₂, _∙_}
+use mathlib.Core.Bool.{Bool, true, false, _&&_, cond, and-assoc}
+use mathlib.Core.List.{List, [], _∷_, _++_, append-nil}
 use Prim.Native.Nat.{ℕ, suc, _+_, _≤_, _<_, _-_}
 use native.Mathlib.Omega.{arith}
 use native.Mathlib.Nat.{add-zero}
 use native.Mathlib.Numerals.{add-one}
-use lib.ListN.{length, getD, take, drop, set, length-set, drop-of-length-le, length-drop}
-use lib.Seq.{drop-cons, take-suc-set, take-set-le, drop-set-lt, append-snoc, take-all}
-use lib.Dec.{eqb, ltb}
+use lib.ListN.{length, getD, take, drop, set, length-set, drop-of-length-le}
+use lib.Seq.{drop-cons, take-suc, take-suc-set, take-set-le, drop-set-lt, getD-set-same, append-snoc, take-all, take-length, drop-length}
+use lib.Dec.{eqb}
 use lib.Bits.{bitOr}
-use borrow.Author.Tests.{ltb-true, ltb-false, ne-eqb, eqb-false, le-ltb}
-use Rattle.bits.specs.Sets.{any, all, keep}
-use Rattle.delegation.specs.Loans.{rising, insert}
-use Rattle.bits.proofs.Sets.{by-cases, fst, snd}
+use Rattle.bits.specs.Sets.{all, keep}
+use Rattle.bits.proofs.Sets.{and-swap}
 use Rattle.bits.proofs.Scan.{or-zero}
-use Rattle.bits.proofs.Indexed.{keep-next}
-use borrow.Rule.Slice.PartMut.{putMid}
+use Rattle.bits.proofs.Indexed.{all-next, keep-next}
 use Rattle.loans.specs.Words.{unmasked}
 
--- ---- the flags of a word
-pub names-zero : (d : List ℕ) (p i q : ℕ)
-    → eqb (bitOr (bitOr (getD d p 0) (getD d i 0)) (getD d q 0)) 0 ≡ unmasked d p && unmasked d i && unmasked d q
-names-zero d p i q =
-    or-zero (bitOr (getD d p 0) (getD d i 0)) (getD d q 0) ∙ ap (λ b. b && unmasked d q) (or-zero (getD d p 0) (getD d i 0))
+-- ---- the sums of the masks
+pub dead-zero : (a b c : ℕ) → eqb (bitOr (bitOr a b) c) 0 ≡ eqb a 0 && eqb b 0 && eqb c 0
+dead-zero a b c = or-zero (bitOr a b) c ∙ ap (λ x. x && eqb c 0) (or-zero a b)
 
--- ---- a word put among rising ones, behind those below it
-keep-none : (x y : ℕ) (s : List ℕ) → x ≤ y → all (ltb y) s ≡ true → keep (λ w. ltb w x) s ≡ []
-unfolding all keep
-keep-none x y [] h k = refl
-keep-none x y (z ∷ s) h k =
-    let l : y < z = ltb-true y z (fst (ltb y z) (all (ltb y) s) k) in
-    rw (le-ltb z x (omega arith)) (keep-none x y s h (snd (ltb y z) (all (ltb y) s) k))
+pub note-zero : (d : List ℕ) (a b c p i q : ℕ)
+    → eqb (bitOr a (getD d p 0)) 0 && eqb (bitOr b (getD d i 0)) 0 && eqb (bitOr c (getD d q 0)) 0
+    ≡ (eqb a 0 && eqb b 0 && eqb c 0) && (unmasked d p && unmasked d i && unmasked d q)
+note-zero d a b c p i q =
+    rw (or-zero a (getD d p 0), or-zero b (getD d i 0), or-zero c (getD d q 0))
+    (ap (λ x. x && (eqb c 0 && unmasked d q)) (and-swap (eqb a 0) (unmasked d p) (eqb b 0) (unmasked d i))
+    ∙ and-swap (eqb a 0 && eqb b 0) (unmasked d p && unmasked d i) (eqb c 0) (unmasked d q))
 
-insert-at : (x : ℕ) (s : List ℕ) (k : ℕ) → rising s ≡ true → any (eqb x) s ≡ false → k ≡ length (keep (λ w. ltb w x) s)
-    → insert x s ≡ take k s ++ (x ∷ drop k s)
-unfolding insert rising any keep
-insert-at x [] k h a e = rw e
-insert-at x (y ∷ ys) k h a e =
-    by-cases (ltb y x)
-    (λ t. rw (e, t) (ap (λ (l : List ℕ). y ∷ l)
-    (insert-at x ys _ (snd (all (ltb y) ys) (rising ys) h) (no-or (eqb x y) (any (eqb x) ys) a .1) refl)))
-    (λ t. let n : y ≡ x → ⊥ = λ q. eqb-false x y (no-or (eqb x y) (any (eqb x) ys) a .0) (sym q) in
-    rw (e, t, ne-eqb y x n, keep-none x y ys (ltb-false y x t) (fst (all (ltb y) ys) (rising ys) h)))
-  where
-    no-or : (a b : Bool) → a || b ≡ false → (a ≡ false) × (b ≡ false)
-    no-or true b e = absurd (false≢true (sym e))
-    no-or false b e = (refl, e)
+-- a loan more: what is left to test after it
+pub note-next : (p : ℕ → Bool) (s : List ℕ) (i : ℕ) (a b : Bool) → i < length s → a ≡ b && p (getD s i 0)
+    → a && all p (drop (i + 1) s) ≡ b && all p (drop i s)
+note-next p s i a b l e =
+    ap (λ x. x && all p (drop (i + 1) s)) e
+    ∙ sym (ap (λ x. b && x) (all-next p s i 0 l) ∙ sym (and-assoc b (p (getD s i 0)) (all p (drop (i + 1) s))))
 
--- the part from place k on, pushed and put back
-pub sifted : (s part : List ℕ) (x k last : ℕ) → rising s ≡ true → any (eqb x) s ≡ false → k ≡ length (keep (λ w. ltb w x) s) → k ≤ length s
-    → part ++ (last ∷ []) ≡ x ∷ take (length s - k) (drop k s) → putMid k (length s - k) s part ++ (last ∷ []) ≡ insert x s
-sifted s part x k last h a e l q =
-    let n : length (drop k s) ≡ length s - k = length-drop k s in
-    let d : take (length s - k) (drop k s) ≡ drop k s = take-all (length s - k) (drop k s) (omega arith) in
-    let z : drop (length s - k) (drop k s) ≡ [] = drop-of-length-le (drop k s) {i = length s - k} (omega arith) in
-    rw (z, append-nil part) (append-assoc (take k s) part (last ∷ [])
-    ∙ ap (λ (r : List ℕ). take k s ++ r) (q ∙ ap (λ (r : List ℕ). x ∷ r) d) ∙ sym (insert-at x s k h a e))
+pub note-more : (p : ℕ → Bool) (s : List ℕ) (i : ℕ) (a b c d e : Bool) → i + 3 < length s → b ≡ a && p (getD s i 0)
+    → c ≡ b && p (getD s (i + 1) 0) → d ≡ c && p (getD s (i + 2) 0) → e ≡ d && p (getD s (i + 3) 0)
+    → e && all p (drop (i + 4) s) ≡ a && all p (drop i s)
+note-more p s i a b c d e l one two three four =
+    let m : i + 1 + 1 ≡ i + 2 = omega arith in
+    let n : i + 2 + 1 ≡ i + 3 = omega arith in
+    let o : i + 3 + 1 ≡ i + 4 = omega arith in
+    sym (ap (λ (k : ℕ). e && all p (drop k s)) o) ∙ note-next p s (i + 3) e d l four
+    ∙ sym (ap (λ (k : ℕ). d && all p (drop k s)) n) ∙ note-next p s (i + 2) d c (omega arith) three
+    ∙ sym (ap (λ (k : ℕ). c && all p (drop k s)) m) ∙ note-next p s (i + 1) c b (omega arith) two
+    ∙ note-next p s i b a (omega arith) one
 
--- a turn of the loop that counts
-pub rank-more : (p : ℕ → Bool) (s : List ℕ) (n i d : ℕ) → i < length s → length (keep p s) ≡ n + length (keep p (drop i s))
-    → d ≡ cond (p (getD s i 0)) 1 0
-    → length (keep p s) ≡ n + d + length (keep p (drop (i + 1) s))
-rank-more p s n i d l e q = e ∙ rw (keep-next p s i 0 l, q) (go (p (getD s i 0)))
-  where
-    go : (b : Bool) → n + length (cond b (getD s i 0 ∷ keep p (drop (i + 1) s)) (keep p (drop (i + 1) s))) ≡ n + cond b 1 0 + length
-        (keep p (drop (i + 1) s))
-    go true = omega arith
-    go false = omega arith
+-- ---- a word moved through a part: the first i, the one held, and the rest are these words
+pub record Held (words s : List ℕ) (hold i n : ℕ) : Type 0 where
+  pub within : i ≤ n
+  pub long : length s ≡ n
+  pub whole : words ≡ take i s ++ (hold ∷ drop i s)
 
-pub rank-end : (p : ℕ → Bool) (s : List ℕ) (n i : ℕ) → length s ≤ i → length (keep p s) ≡ n + length (keep p (drop i s))
-    → n ≡ length (keep p s)
-unfolding keep
-rank-end p s n i l e = sym (e ∙ rw (drop-of-length-le s {i = i} l) (add-zero n))
+-- before the first turn of either loop
+pub held-none : (s : List ℕ) (word : ℕ) → Held (word ∷ s) s word 0 (length s)
+held-none s word = record { within = omega arith; long = refl; whole = refl }
 
--- word and old are the i words written, the one held, and the rest
-pub record Pushed (old : List ℕ) (word : ℕ) (s : List ℕ) (hold i : ℕ) : Type 0 where
-  pub within : i ≤ length old
-  pub long : length s ≡ length old
-  pub whole : word ∷ old ≡ take i s ++ (hold ∷ drop i s)
+pub held-all : (s : List ℕ) (word : ℕ) → Held (s ++ (word ∷ [])) s word (length s) (length s)
+held-all s word = record { within = omega arith; long = refl; whole = rw (take-length s, drop-length s) }
 
-pub push-more : (old : List ℕ) (word : ℕ) (s : List ℕ) (hold i : ℕ) → Pushed old word s hold i → i < length old
-    → Pushed old word (set s i hold) (getD s i 0) (i + 1)
-push-more old word s hold i k h =
-    let l : i < length s = omega (arith, k .long) in
-    record {
-      within = omega arith;
-      long = length-set s i hold ∙ k .long;
-      whole =
-          k .whole ∙ rw (add-one i, drop-set-lt (suc i) s i hold (omega arith), take-suc-set s i hold l, drop-cons s i 0 l)
-          (sym (append-snoc (take i s) hold (getD s i 0 ∷ drop (suc i) s)));
-    }
+module _ (words s : List ℕ) (hold i n : ℕ) (k : Held words s hold i n) where
+  pub push-more : i < n → Held words (set s i hold) (getD s i 0) (i + 1) n
+  push-more h =
+      let l : i < length s = omega (arith, k .long) in
+      record {
+        within = omega arith;
+        long = length-set s i hold ∙ k .long;
+        whole =
+            k .whole ∙ rw (add-one i, drop-set-lt (suc i) s i hold (omega arith), take-suc-set s i hold l, drop-cons s i 0 l)
+            (sym (append-snoc (take i s) hold (getD s i 0 ∷ drop (suc i) s)));
+      }
 
-pub push-end : (old : List ℕ) (word : ℕ) (s : List ℕ) (hold i : ℕ) → Pushed old word s hold i → length old ≤ i
-    → s ++ (hold ∷ []) ≡ word ∷ old
-push-end old word s hold i k h =
-    sym (k .whole ∙ rw (drop-of-length-le s {i = i} (omega (arith, k .long)), take-all i s (omega (arith, k .long))))
+  pub push-end : n ≤ i → s ++ (hold ∷ []) ≡ words
+  push-end h = sym (k .whole ∙ rw (drop-of-length-le s {i = i} (omega (arith, k .long)), take-all i s (omega (arith, k .long))))
+
+  pub pull-more : (j : ℕ) → i ≡ suc j → Held words (set s j hold) (getD s j 0) j n
+  pull-more j e =
+      let l : j < length s = omega (arith, k .long, k .within) in
+      record {
+        within = omega (arith, k .within);
+        long = length-set s j hold ∙ k .long;
+        whole =
+            k .whole ∙ rw (e, take-suc s j 0 l, append-snoc (take j s) (getD s j 0) (hold ∷ drop (suc j) s))
+            (ap₂ (λ (x y : List ℕ). x ++ (getD s j 0 ∷ y)) (sym (take-set-le j s j hold (omega arith)))
+            (sym (drop-cons (set s j hold) j 0 (simp length-set l)
+            ∙ rw (getD-set-same s j hold 0 l, drop-set-lt (suc j) s j hold (omega arith)))));
+      }
+
+  pub pull-end : i ≡ 0 → hold ∷ s ≡ words
+  pull-end e = sym (k .whole ∙ rw e)
 
 -- ---- the words that stay, moved down: those of old are the place words written, then those that stay of the rest
 pub record Packed (p : ℕ → Bool) (old s : List ℕ) (place i : ℕ) : Type 0 where

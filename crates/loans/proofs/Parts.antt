@@ -1,21 +1,24 @@
 -- Laws of a loans image and its parts: the loans in use, and the words after them.
-use mathlib.Core.Path.{_≡_, refl, sym, ap, _∙_}
+use mathlib.Core.Path.{_≡_, sym, ap, _∙_, subst}
 use mathlib.Core.Bool.{Bool, true, false, not, _&&_, and-assoc, and-true}
-use mathlib.Core.List.{List, [], _∷_, _++_, append-nil}
+use mathlib.Core.List.{List, [], _∷_, _++_, append-nil, append-assoc}
 use Prim.Native.Nat.{ℕ, suc, _+_, _-_, _≤_, _<_, min}
 use native.Mathlib.Omega.{arith}
 use native.Mathlib.Numerals.{add-one}
 use lib.ListN.{length, length-append, take, drop, set, replicate, length-take, length-drop}
-use lib.Seq.{append-snoc, take-all, take-length, drop-length, length-take-le, take-append-le, drop-at, set-at}
+use lib.Seq.{append-snoc, take-all, take-length, drop-length, length-take-le, take-append-le, drop-append-le, take-at, drop-at, set-at, drop-cons}
 use borrow.Rule.Slice.PartMut.{putMid}
 use lib.Dec.{eqb, leb}
 use borrow.Author.Tests.{leb-true, leb-false, eq-eqb}
 use Rattle.bits.specs.Sets.{any, all}
 use Rattle.model.specs.Commands.{shifts, mostLoans}
-use Rattle.delegation.specs.Loans.{lender, loanItem, borrower, rising, insert, loanWords, headerWord, recounted, movedTo, headerIn, countOf, shiftIn, used, loansImage, loansWith, loansAt, wordGood, loansInOrder}
+use Rattle.delegation.specs.Loans.{lender, loanItem, borrower, rising, insert, loanWords, headerWord, recounted, movedTo, headerIn, countOf, shiftIn, used, loansImage, loansWith, loansKept, loansAt, wordGood, loansInOrder}
 use Rattle.delegation.specs.declared.loan.Header.{Header}
 use Rattle.bits.proofs.Sets.{by-cases, snd, all-and}
+use Rattle.bits.proofs.Indexed.{find-at}
 use Rattle.delegation.proofs.Rising.{insert-present}
+use Rattle.delegation.specs.Below.{Below}
+use Rattle.loans.proofs.Place.{in-place, insert-at, keep-others, keep-at}
 use Rattle.loans.specs.Words.{shaped, namesLive, Ordered}
 
 pub length-used : (t : List ℕ) → length (used t) ≡ min (countOf t) (length t - 1)
@@ -62,15 +65,29 @@ pub packed-part : (t part : List ℕ) (k m : ℕ) → 0 < length t → m ≤ len
 packed-part [] part k m h l = absurd (omega arith)
 packed-part (n ∷ s) part k m h l = take-append-le m part (drop k s) l
 
--- a word put behind the part that holds the loans in use, and the header put
-put-word : (t part ls z : List ℕ) (h n k last v : ℕ) → t ≡ h ∷ (ls ++ (0 ∷ z)) → k ≡ length ls → length part ≡ n
-    → set (set (putMid 1 k t part) (n + 1) last) 0 v ≡ v ∷ (part ++ (last ∷ z))
-put-word t part ls z h n k last v e q p = rw (e, q, drop-at ls (0 ∷ z) (length ls) refl, add-one n, set-at part 0 z last n p)
+-- the loans in use from a place on, and the image with other words there
+module _ (t ls z : List ℕ) (h n place : ℕ) (e : t ≡ h ∷ (ls ++ z)) (l : length ls ≡ n) (p : place ≤ n) where
+  long : length (drop place ls) ≡ n + 1 - suc place
+  long = simp length-drop (omega arith)
+
+  part-after : take (n + 1 - (place + 1)) (drop (place + 1) t) ≡ drop place ls
+  part-after =
+      rw (e, add-one place, drop-append-le place ls z (omega arith)) (take-at (drop place ls) z (n + 1 - suc place) long)
+
+  put-after : (part : List ℕ) → putMid (place + 1) (n + 1 - (place + 1)) t part ≡ h ∷ ((take place ls ++ part) ++ z)
+  put-after part =
+      rw (e, add-one place, take-append-le place ls z (omega arith), drop-append-le place ls z (omega arith))
+      (ap (λ (r : List ℕ). h ∷ (take place ls ++ (part ++ r))) (drop-at (drop place ls) z (n + 1 - suc place) long)
+      ∙ ap (λ (r : List ℕ). h ∷ r) (sym (append-assoc (take place ls) part z)))
+
+image-parts : (h : Header) (ws : List ℕ) (n : ℕ) → length ws ≡ n
+    → loansImage h ws ≡ headerWord (recounted h n) ∷ (ws ++ replicate (mostLoans - n) 0)
+unfolding loansImage
+image-parts h ws n l = rw l
 
 image-room : (h : Header) (ws : List ℕ) (n : ℕ) → length ws ≡ n → n < mostLoans
     → loansImage h ws ≡ headerWord (recounted h n) ∷ (ws ++ (0 ∷ replicate (mostLoans - suc n) 0))
-unfolding loansImage
-image-room h ws n l few = let q : mostLoans - n ≡ suc (mostLoans - suc n) = omega arith in rw (l, q)
+image-room h ws n l few = let q : mostLoans - n ≡ suc (mostLoans - suc n) = omega arith in image-parts h ws n l ∙ rw q
 
 image-snoc : (h : Header) (ws : List ℕ) (x n : ℕ) → length ws ≡ n
     → loansImage h (ws ++ (x ∷ [])) ≡ headerWord (recounted h (n + 1)) ∷ (ws ++ (x ∷ replicate (mostLoans - suc n) 0))
@@ -83,23 +100,72 @@ image-snoc h ws x n l =
 pub room : (n : ℕ) (b : Bool) → leb mostLoans n && not b ≡ false → b ≡ false → n < mostLoans
 room n b e f = leb-false mostLoans n (sym (and-true (leb mostLoans n)) ∙ ap (λ x. leb mostLoans n && not x) (sym f) ∙ e)
 
+-- where a loan stands there is one
+pub stands-some : (t : List ℕ) (word : ℕ) → any (eqb word) (used t) ≡ true → 0 < length (used t)
+stands-some t word a = let f = find-at (eqb word) 0 (used t) a in omega (arith, f .1)
+
 module _ (t : List ℕ) (o : Ordered t) where
   pub standing : (word : ℕ) → any (eqb word) (used t) ≡ true → t ≡ loansWith word t
   standing word h = o .whole ∙ ap (loansImage (headerIn t)) (sym (insert-present word (used t) (o .rises) h))
 
-  pub added : (part : List ℕ) (word n last v : ℕ) → n ≡ min (countOf t) (length t - 1) → countOf t < mostLoans
-      → length part ≡ length (take (n + 1 - 1) (drop 1 t)) → part ++ (last ∷ []) ≡ insert word (take (n + 1 - 1) (drop 1 t))
-      → v ≡ headerWord (recounted (headerIn t) (n + 1))
-      → set (set (putMid 1 (n + 1 - 1) t part) (n + 1) last) 0 v ≡ loansWith word t
-  added part word n last v e room lp ep ev =
-      let ls : length (used t) ≡ n = length-used t ∙ sym e in
-      let u = part-used t n e in
-      let k : n + 1 - 1 ≡ length (used t) = omega arith in
-      let l : length part ≡ n = lp ∙ rw u ls in
-      let w = o .whole ∙ image-room (headerIn t) (used t) n ls (omega (arith, o .long)) in
-      let q : part ++ (last ∷ []) ≡ insert word (used t) = ep ∙ rw u in
-      put-word t part (used t) (replicate (mostLoans - suc n) 0) _ n (n + 1 - 1) last v w k l
-      ∙ sym (ap (loansImage (headerIn t)) (sym q) ∙ image-snoc (headerIn t) part last n l ∙ rw ev)
+  pub absent : (word : ℕ) → any (eqb word) (used t) ≡ false → t ≡ loansKept (λ x. not (eqb word x)) t
+  absent word h = o .whole ∙ ap (loansImage (headerIn t)) (sym (keep-others word (used t) h))
+
+  module _ (word n place : ℕ) (e : n ≡ min (countOf t) (length t - 1)) (b : Below (take (n + 1 - 1) (drop 1 t)) word place) where
+    long-used : length (used t) ≡ n
+    long-used = length-used t ∙ sym e
+
+    below-used : Below (used t) word place
+    below-used = subst (λ (s : List ℕ). Below s word place) (part-used t n e) b
+
+    inside : place ≤ n
+    inside = omega (arith, below-used .within, long-used)
+
+    -- the loan put in at its place, with the last word and the header put
+    pub added : (part : List ℕ) (last v : ℕ) → any (eqb word) (used t) ≡ false → countOf t < mostLoans
+        → length part ≡ length (take (n + 1 - (place + 1)) (drop (place + 1) t))
+        → part ++ (last ∷ []) ≡ word ∷ take (n + 1 - (place + 1)) (drop (place + 1) t)
+        → v ≡ headerWord (recounted (headerIn t) (n + 1))
+        → set (set (putMid (place + 1) (n + 1 - (place + 1)) t part) (n + 1) last) 0 v ≡ loansWith word t
+    added part last v a few lp ep ev =
+        let u = used t in
+        let z : List ℕ = replicate (mostLoans - suc n) 0 in
+        let w = o .whole ∙ image-room (headerIn t) u n long-used (omega (arith, o .long)) in
+        let m = part-after t u (0 ∷ z) _ n place w long-used inside in
+        let first : List ℕ = take place u ++ part in
+        let at : length (take place u) ≡ place = length-take-le place u (below-used .within) in
+        let l : length first ≡ n
+        = length-append (take place u) part
+        ∙ omega (arith, lp, ap (λ (r : List ℕ). length r) m, length-drop place u, at, long-used, inside) in
+        let q : first ++ (last ∷ []) ≡ insert word u
+        = append-assoc (take place u) part (last ∷ [])
+        ∙ ap (λ (r : List ℕ). take place u ++ r) (ep ∙ ap (λ (r : List ℕ). word ∷ r) m)
+        ∙ sym (insert-at word place u below-used a) in
+        rw (put-after t u (0 ∷ z) _ n place w long-used inside part, add-one n, set-at first 0 z last n l)
+        (sym (ap (loansImage (headerIn t)) (sym q) ∙ image-snoc (headerIn t) first last n l ∙ rw ev))
+
+    -- the loan taken out of its place, with the header put
+    pub removed : (part : List ℕ) (taken v : ℕ) → any (eqb word) (used t) ≡ true
+        → taken ∷ part ≡ take (n + 1 - (place + 1)) (drop (place + 1) t) ++ (0 ∷ [])
+        → v ≡ headerWord (recounted (headerIn t) (n - 1))
+        → set (putMid (place + 1) (n + 1 - (place + 1)) t part) 0 v ≡ loansKept (λ x. not (eqb word x)) t
+    removed part taken v a ep ev =
+        let u = used t in
+        let z : List ℕ = replicate (mostLoans - n) 0 in
+        let w = o .whole ∙ image-parts (headerIn t) u n long-used in
+        let lt : place < length u = in-place word place u below-used a in
+        let rest : part ≡ drop (suc place) u ++ (0 ∷ [])
+        = ap (λ (r : List ℕ). drop 1 r)
+        (ep ∙ ap (λ (r : List ℕ). r ++ (0 ∷ [])) (part-after t u z _ n place w long-used inside ∙ drop-cons u place 0 lt)) in
+        let kept : List ℕ = take place u ++ drop (suc place) u in
+        let l : length kept ≡ n - 1
+        = length-append (take place u) (drop (suc place) u)
+        ∙ omega (arith, length-drop (suc place) u, length-take-le place u (below-used .within), long-used) in
+        let q : mostLoans - (n - 1) ≡ suc (mostLoans - n) = omega (arith, o .long, long-used) in
+        let image : loansImage (headerIn t) kept ≡ v ∷ (kept ++ (0 ∷ z)) = image-parts (headerIn t) kept (n - 1) l ∙ rw (q, ev) in
+        rw (put-after t u z _ n place w long-used inside part, rest, ← append-assoc (take place u) (drop (suc place) u) (0 ∷ []))
+        (ap (λ (r : List ℕ). v ∷ r) (append-snoc kept 0 z)
+        ∙ sym (ap (loansImage (headerIn t)) (keep-at word place u (o .rises) below-used lt a) ∙ image))
 
 -- ---- the parts that the test of order looks at
 good-split : (live : ℕ → Bool) (w : ℕ) → wordGood live w ≡ shaped w && namesLive live w

@@ -8,7 +8,7 @@ use lib.Dec.{eqb}
 use Rattle.bits.specs.Sets.{keep}
 use Rattle.delegation.specs.Loans.{lender, loanItem, loanRight, borrower, wordNames, rising, loanWords, headerIn, used, loansImage}
 use Rattle.loans.specs.declared.Rule.{Rule}
-use Rattle.loans.specs.declared.Rule.the-variants.{Other, Without}
+use Rattle.loans.specs.declared.order.Dead.{Dead}
 
 -- item i lives, by a mask of 64 bytes: 0 where it does, 255 where it does not
 abbrev pub unmasked : List ℕ → ℕ → Bool
@@ -22,10 +22,13 @@ shaped w = not (eqb (loanRight w) 0)
 abbrev pub namesLive : (ℕ → Bool) → ℕ → Bool
 namesLive live w = live (lender w) && live (loanItem w) && live (borrower w)
 
+-- no field has named a dead item, by the sums of the three fields' masks
+abbrev pub noneDead : Dead → Bool
+noneDead d = eqb (d .lender) 0 && eqb (d .item) 0 && eqb (d .borrower) 0
+
 -- the loan words that a rule lets stand
 abbrev pub keepsOf : Rule → ℕ → Bool
-keepsOf (Other word) w = not (eqb word w)
-keepsOf (Without item) w = not (wordNames (item .0) w)
+keepsOf rule w = not (wordNames (rule .without .0) w)
 
 -- how many loans a pass by the rule ends; none where the slice is no loans image by its length
 abbrev pub endedBy : Rule → List ℕ → ℕ

@@ -1,5 +1,6 @@
--- In each arm both images are as the verb, which the match has told, leaves them (`arm`). A loan that the table let through finds the
--- loans image in order, and room in it, since row 10 does not hold (`room`).
+-- In each arm both images are as the verb, which the match has told, leaves them (`arm`). A recall finds the
+-- loans image in order (`loans-ordered`), and so does a loan that the table let through, with room in it, since row 10 does not hold
+-- (`room`).
 use borrow.Author.Needs.{needs}
 use mathlib.Core.Path.{ap, _∙_}
 use mathlib.Core.Bool.{not}
@@ -7,7 +8,7 @@ use lib.Dec.{eqb}
 use Rattle.model.specs.Commands.{rawOf}
 use Rattle.delegation.specs.Loans.{loansWith, loansKept}
 use Rattle.delegation.specs.Images.{images}
-use Rattle.chains.proofs.Arms.{arm, room}
+use Rattle.chains.proofs.Arms.{arm, loans-ordered, room}
 use Rattle.chains.proofs.apply.Statement.{statement}
 use Rattle.chains.proofs.apply.Tie as tie
 
@@ -53,8 +54,10 @@ enum-told-6 c = search needs
 loan-word-requires-2 : tie.Need-loan-word-requires-2
 loan-word-requires-2 c κs = search needs
 
-drop-loan-requires : tie.Need-drop-loan-requires
-drop-loan-requires c κs = search needs
+remove-requires : tie.Need-remove-requires
+remove-requires c κs =
+    let start = c .before .before .before .before .before .before in
+    loans-ordered (start .args .grants .now) (start .args .loans .now) (rawOf (start .args .t)) (start .pre)
 
 enum-told-7 : tie.Need-enum-told-7
 enum-told-7 c = search needs
@@ -137,7 +140,7 @@ returns-6 c =
     arm (images (start .args .grants .now) (start .args .loans .now)) _ (rawOf (start .args .t)) _
     (c .before .before .before .before .before .enum-told6 .given .1)
     (ap (images (start .args .grants .now))
-    (c .before .before .drop-loan .ensures
+    (c .before .before .remove .ensures
     ∙ ap (λ w. loansKept (λ x. not (eqb w x)) (start .args .loans .now)) (c .before .before .before .loan-word2 .ensures)))
 
 same-length-8 : tie.Need-same-length-8
@@ -187,7 +190,7 @@ apply-spec =
     insert-requires
     enum-told-6
     loan-word-requires-2
-    drop-loan-requires
+    remove-requires
     enum-told-7
     set-shift-requires
     enum-told-8

@@ -1,69 +1,60 @@
--- All loans name living items exactly where the flags ORed so far are 0 and those of the rest do (`scan-next`); at the end the rest is
--- empty (`scan-end`).
+-- The loans up to the last four and the rest of them are all, and each sum is 0 where the three ORed are (`dead-zero`).
 use borrow.Author.Needs.{needs}
 use native.Mathlib.Omega.{arith}
-use mathlib.Core.Path.{_≡_, refl, ap, _∙_}
-use Prim.Native.Nat.{_-_, _≤_}
-use lib.ListN.{length, drop, drop-of-length-le}
+use mathlib.Core.Path.{_≡_, ap, _∙_}
 use mathlib.Core.Bool.{_&&_}
-use lib.Dec.{eqb}
+use mathlib.Core.List.{List}
+use Prim.Native.Nat.{ℕ, _-_, _*_, _/_}
+use lib.ListN.{length, take, drop, length-drop}
+use lib.Seq.{take-all}
 use Rattle.bits.specs.Sets.{all}
-use Rattle.bits.proofs.Indexed.{all-next}
-use Rattle.bits.proofs.Scan.{scan-next, scan-end}
-use Rattle.loans.specs.Words.{unmasked, namesLive}
+use Rattle.loans.specs.Words.{unmasked, namesLive, noneDead}
+use Rattle.loans.proofs.Loops.{dead-zero}
 use Rattle.loans.proofs.order.are_live.Statement.{statement}
 use Rattle.loans.proofs.order.are_live.Tie as tie
 
-abbrev Inv-loop : tie.InvT-loop
-Inv-loop s masks bad₀ i₀ bad i =
-    (i ≤ length s) × (all (namesLive (unmasked masks)) s ≡ eqb bad 0 && all (namesLive (unmasked masks)) (drop i s))
+mul-end : tie.Need-mul-end
+mul-end c = search needs
 
-abbrev μ-loop : tie.MeasureT-loop
-μ-loop s masks bad₀ i₀ bad i = length s - i
+note-fours-requires : tie.Need-note-fours-requires
+note-fours-requires c κs = search needs
 
-loop-holds : tie.Need-loop-holds Inv-loop μ-loop
-loop-holds c = (search needs, refl)
+mul-note-all : tie.Need-mul-note-all
+mul-note-all c = search needs
 
-mul-names-flag : tie.Need-mul-names-flag Inv-loop μ-loop
-mul-names-flag c = search needs
+sub-note-all : tie.Need-sub-note-all
+sub-note-all c = search needs
 
-shared-slice-read-names-flag : tie.Need-shared-slice-read-names-flag Inv-loop μ-loop
-shared-slice-read-names-flag c = search needs
+part-note-all-start : tie.Need-part-note-all-start
+part-note-all-start c = search needs
 
-names-flag-requires : tie.Need-names-flag-requires Inv-loop μ-loop
-names-flag-requires c κs = search needs
+part-note-all-end : tie.Need-part-note-all-end
+part-note-all-end c = search needs
 
-add-i : tie.Need-add-i Inv-loop μ-loop
-add-i c = search needs
+note-all-requires : tie.Need-note-all-requires
+note-all-requires c κs = search needs
 
-loop-less : tie.Need-loop-less Inv-loop μ-loop
-loop-less c = search needs
-
-loop-again : tie.Need-loop-again Inv-loop μ-loop
-loop-again c =
-    let l = c .before .before .before .loop in
-    let a = c .before .before .before .before .before .args in
-    let n = all-next (namesLive (unmasked (a .masks .now))) (a .s .now) (l .i) 0 (omega arith) in
-    (search needs, scan-next (l .bad) (c .names-flag .result) _ _ _ (l .inv .1 ∙ ap (λ b. eqb (l .bad) 0 && b) n) (c .names-flag .ensures))
-
-returns : tie.Need-returns Inv-loop μ-loop
-unfolding all
+returns : tie.Need-returns
 returns c =
-    let l = c .before .loop in
-    let s = c .before .before .before .args .s .now in
-    scan-end (eqb (l .bad) 0) _ _ (l .inv .1) (rw (drop-of-length-le s {i = l .i} (omega arith)))
+    let rest = c .before .before .note-all in
+    let fours = c .before .before .before .before in
+    let a = fours .before .before .args in
+    let s = a .s .now in
+    let end = length s / 4 * 4 in
+    let e : take (length s - end) (drop end s) ≡ drop end s = take-all (length s - end) (drop end s) (simp length-drop (omega arith)) in
+    dead-zero (rest .result .lender) (rest .result .item) (rest .result .borrower) ∙ rest .ensures
+    ∙ ap (λ (x : List ℕ). noneDead (fours .note-fours .result) && all (namesLive (unmasked (a .masks .now))) x) e
+    ∙ fours .note-fours .ensures
 
 pub are-live-spec : {M : Type 1} → statement M
 are-live-spec =
     tie.close
     (tie.spec
-    Inv-loop
-    μ-loop
-    loop-holds
-    mul-names-flag
-    shared-slice-read-names-flag
-    names-flag-requires
-    add-i
-    loop-less
-    loop-again
+    mul-end
+    note-fours-requires
+    mul-note-all
+    sub-note-all
+    part-note-all-start
+    part-note-all-end
+    note-all-requires
     returns)
