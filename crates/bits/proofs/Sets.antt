@@ -2,10 +2,11 @@
 use mathlib.Core.Path.{_≡_, refl, sym, ap, ap₂, _∙_}
 use mathlib.Core.Bool.{Bool, true, false, _&&_, _||_, cond, false≢true}
 use mathlib.Core.List.{List, [], _∷_, map}
-use Prim.Native.Nat.{ℕ}
+use Prim.Native.Nat.{ℕ, suc}
 use borrow.Author.Tests.{eqb-true, eq-eqb}
 use lib.Dec.{eqb}
-use Rattle.bits.specs.Sets.{any, all, keep, add}
+use lib.ListN.{length}
+use Rattle.bits.specs.Sets.{any, all, keep, count, add}
 
 -- two tests that pass together are equal
 pub iff : (a b : Bool) → (a ≡ true → b ≡ true) → (b ≡ true → a ≡ true) → a ≡ b
@@ -179,6 +180,17 @@ module _ {A : Type 0} where
   unfolding any all keep add
   keep-all f [] h = refl
   keep-all f (x ∷ xs) h = rw (fst (f x) (all f xs) h) (ap (λ (ys : List A). x ∷ ys) (keep-all f xs (snd (f x) (all f xs) h)))
+
+  -- as many are kept as pass
+  pub count-keep : (f : A → Bool) (xs : List A) → count f xs ≡ length (keep f xs)
+  unfolding keep count
+  count-keep f [] = refl
+  count-keep f (x ∷ xs) = go (f x) (count-keep f xs)
+    where
+      go : (b : Bool) → count f xs ≡ length (keep f xs)
+          → cond b (suc (count f xs)) (count f xs) ≡ length (cond b (x ∷ keep f xs) (keep f xs))
+      go true e = ap suc e
+      go false e = e
 
   -- what is kept of what was kept passes both tests
   pub keep-keep : (f g : A → Bool) (xs : List A) → keep f (keep g xs) ≡ keep (λ x. g x && f x) xs

@@ -1,4 +1,4 @@
--- Numbers 1 and 2, the fresh unit, the facts of a command, and what a check hands to the search.
+-- Numbers 1 and 2, the fresh unit, the facts of a command, and what a check's answer is asked of.
 use mathlib.Core.Path.{_≡_, refl, ap, _∙_}
 use mathlib.Core.Bool.{Bool, true, false, not, _&&_, cond}
 use mathlib.Core.List.{List, []}
@@ -35,7 +35,7 @@ use Rattle.layouts.proofs.Admission.{command-admitted, check-admitted}
 use Rattle.delegation.proofs.ChainEnds.{chain-readable}
 use Rattle.loans.specs.Words.{unmasked}
 use Rattle.loans.proofs.Standing.{masked, cut-none}
-use Rattle.search.specs.InShape.{InShape}
+use Rattle.chains.specs.InShape.{InShape}
 use Rattle.chains.specs.Ready.{Ready}
 
 -- ---- numbers 1 and 2

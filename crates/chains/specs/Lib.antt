@@ -1,1 +1,2 @@
+pub mod InShape
 pub mod Ready

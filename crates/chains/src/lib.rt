@@ -20,22 +20,36 @@ use model::Verb;
 use model::judge;
 ghost use mathlib.Core.Path.{_≡_};
 ghost use mathlib.Core.Bool.{true};
-ghost use Prim.Native.Nat.{_≤_, _<_};
+ghost use Prim.Native.Nat.{_+_, _*_, _≤_, _<_};
 ghost use lib.ListN.{length};
 ghost use Rattle.model.specs.declared.Command.the-variants.{Create, Delete, Allow, Withdraw, Lend, Recall, AllowSet, Drop};
 ghost use Rattle.model.specs.declared.Command.the-variants as command;
 ghost use Rattle.model.specs.Commands.{Ranged, rawOf};
-ghost use Rattle.model.specs.Answers.{numberOf};
+ghost use Rattle.model.specs.Answers.{numberOf, foundSaid};
 ghost use Rattle.layouts.specs.Machine.{Judged, Ran};
 ghost use Rattle.model.specs.Journal.{loanIn};
 ghost use Rattle.layouts.specs.Layouts.{grantCells};
-ghost use Rattle.delegation.specs.Loans.{wordOf, loanWords, loansAt};
+ghost use Rattle.delegation.specs.Loans.{wordOf, loanWords, countOf, loansAt};
+ghost use Rattle.delegation.specs.Search.{foundOf, chainOf};
 ghost use Rattle.delegation.specs.Images.{images};
 ghost use Rattle.delegation.specs.ChainUnit.{chainUnit, chainGuarded, chainFacts, chainAfter, ChainChecks, ChainInspects, ChainFreshens};
+ghost use Rattle.chains.specs.InShape.{InShape};
 ghost use Rattle.chains.specs.Ready.{Ready, Accepted, withoutItem};
 
 // The bytes of a chain buffer.
 const PERSONS: usize = 8;
+
+// Where the grants of the first item and right begin, after the live set.
+const ROLL: usize = 8;
+
+// The grant bytes of an item and right, one for each person.
+const HOLDERS: usize = 64;
+
+// How many loans an image holds.
+const MANY: usize = 1024;
+
+// How many have room in a small buffer, which is sooner made.
+const FEW: usize = 64;
 
 // Number 1 alone: whatever the buffers held is overwritten. The small state that is written is that of `Grants::fresh` and
 // `Loans::fresh`.
@@ -346,6 +360,49 @@ pub fn shift(grants: &mut [u8], loans: &mut [u32], by: u32, shift: u32) -> Answe
     offer(grants, loans, Command::Shift { by, now: shift })
 }
 
+// The answer to a check, and its chain, with room in `out` for the loans in use. The carrying loans of the item and right are picked once;
+// the search is given these, the grant bytes of the item and right, and nothing else.
+fn answer_in(
+    out: &mut [u32],
+    grants: &[u8],
+    loans: &[u32],
+    who: Item,
+    on: Item,
+    right: Right,
+    chain: &mut [u8],
+) -> ChainChecked
+    requires { ⌜ InShape (now grants) (now loans) (who .0) (on .0) (right .0) (length (now chain))
+        × (countOf (now loans) ≤ length (now out)) ⌝ }
+    ensures { λ r. ⌜ (r ≡ foundSaid (foundOf (now (grants .entry)) (now (loans .entry)) (8 * on .0 + right .0) (who .0)))
+        × (now (chain .exit) ≡ chainOf (now (grants .entry)) (now (loans .entry)) (8 * on .0 + right .0) (who .0)) ⌝ }
+{
+    let m = picking::pick(out, loans, on, right);
+    let base = ROLL + HOLDERS * loan::key(on, right) as usize;
+    search::best(&grants[base..base + HOLDERS], &out[..m], who, chain)
+}
+
+// The same, with a buffer by the number of loans in use.
+fn answer(
+    grants: &[u8],
+    loans: &[u32],
+    who: Item,
+    on: Item,
+    right: Right,
+    chain: &mut [u8],
+) -> ChainChecked
+    requires { ⌜ InShape (now grants) (now loans) (who .0) (on .0) (right .0) (length (now chain)) ⌝ }
+    ensures { λ r. ⌜ (r ≡ foundSaid (foundOf (now (grants .entry)) (now (loans .entry)) (8 * on .0 + right .0) (who .0)))
+        × (now (chain .exit) ≡ chainOf (now (grants .entry)) (now (loans .entry)) (8 * on .0 + right .0) (who .0)) ⌝ }
+{
+    let header = loans::header_of(loans);
+    if header.count as usize <= FEW {
+        let mut few = [0u32; FEW];
+        return answer_in(&mut few, grants, loans, who, on, right, chain);
+    }
+    let mut many = [0u32; MANY];
+    answer_in(&mut many, grants, loans, who, on, right, chain)
+}
+
 // Whether a chain of grants and carrying loans leads to the person, with the greatest depth that any ends with, and one that does
 // written into the chain buffer.
 pub fn check(
@@ -366,7 +423,7 @@ pub fn check(
             who: p,
             on: i,
             right: r,
-        } => search::best(grants, loans, p, i, r, chain),
+        } => answer(grants, loans, p, i, r, chain),
     }
 }
 

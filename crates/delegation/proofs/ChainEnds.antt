@@ -17,7 +17,8 @@ use Rattle.layouts.specs.Admission.{checkAdmission}
 use Rattle.layouts.specs.Layouts.{grantCells}
 use Rattle.delegation.specs.Loans.{loanWords}
 use Rattle.delegation.specs.Images.{Images}
-use Rattle.delegation.specs.Search.{foundOf, chainOf, heightOf, lengthOf}
+use Rattle.delegation.specs.Search.{grantsOf, foundOf, chainOf, heightOf, lengthOf, bestOf}
+use Rattle.delegation.specs.Picking.{picked}
 use Rattle.delegation.specs.ChainUnit.{chainInOrder, chainSized, chainGuarded, chainCheckNumber, chainFound, ChainChecks}
 use Rattle.bits.proofs.Sets.{fst, snd}
 use Rattle.model.proofs.Commands.{question-asked}
@@ -59,15 +60,19 @@ chain-check-known : (s : Images) (buffer : List ℕ) (p o r : ℕ) → Known (ch
 chain-check-known s buffer p o r = check-guard-known (chainSized s (eqb (length buffer) 8)) (chainInOrder s) p o r
 
 -- a no has no depth and no persons
-found-none : (gs t : List ℕ) (key who : ℕ) → foundOf gs t key who .yes ≡ false → foundOf gs t key who ≡ nothing
-unfolding foundOf
-found-none gs t key who = go (eqb (heightOf gs t key who) 0)
+best-none : (bytes ls : List ℕ) (who : ℕ) → bestOf bytes ls who .yes ≡ false → bestOf bytes ls who ≡ nothing
+unfolding bestOf
+best-none bytes ls who = go (eqb (heightOf bytes ls who) 0)
   where
     go : (b : Bool) → cond b nothing
-        (record { yes = true; depth = heightOf gs t key who - 1; persons = lengthOf gs t key who + 1 }) .yes ≡ false
-        → cond b nothing (record { yes = true; depth = heightOf gs t key who - 1; persons = lengthOf gs t key who + 1 }) ≡ nothing
+        (record { yes = true; depth = heightOf bytes ls who - 1; persons = lengthOf bytes ls who + 1 }) .yes ≡ false
+        → cond b nothing (record { yes = true; depth = heightOf bytes ls who - 1; persons = lengthOf bytes ls who + 1 }) ≡ nothing
     go true e = refl
     go false e = absurd (false≢true (sym e))
+
+found-none : (gs t : List ℕ) (key who : ℕ) → foundOf gs t key who .yes ≡ false → foundOf gs t key who ≡ nothing
+unfolding foundOf
+found-none gs t key who = best-none (grantsOf gs key) (picked t key) who
 
 chain-found : (s : Images) (buffer : List ℕ) (p o r : ℕ)
     → foundIn (chainCheckedOf (chainCheckNumber s buffer p o r) (chainFound s buffer p o r)) ≡ chainFound s buffer p o r

@@ -1,7 +1,7 @@
 -- Demand 2: a check that is not refused decides what the rules of document 002 derive from the images. All is said of what the
 -- check's contract names: its number, what it found and the chain buffer after it.
-use mathlib.Core.Path.{_≡_, sym, _∙_}
-use mathlib.Core.Bool.{true, false, _&&_, false≢true}
+use mathlib.Core.Path.{_≡_, sym, ap, _∙_}
+use mathlib.Core.Bool.{Bool, true, false, _&&_, false≢true}
 use mathlib.Core.Logic.{_↔_}
 use mathlib.Core.List.{List}
 use Prim.Native.Nat.{ℕ, _+_, _*_, _≤_, _<_}
@@ -12,9 +12,12 @@ use Rattle.model.specs.Journal.{grant}
 use Rattle.model.specs.Commands.{depths}
 use Rattle.layouts.specs.Layouts.{Layout, liveIn, grantBit, held, inOrder, grantBytes, checkNumber, checkYes}
 use Rattle.model.specs.Chain.{Access, Greatest, Meets}
-use Rattle.delegation.specs.Loans.{lender, borrower, loanDepth, loansInOrder}
+use Rattle.bits.specs.Bits.{bit}
+use Rattle.bits.specs.Sets.{any}
+use Rattle.delegation.specs.Loans.{lender, borrower, loanDepth, rising, used, loansInOrder}
 use Rattle.delegation.specs.Images.{Images, standingIn, WordCarries, ImageChain}
-use Rattle.delegation.specs.Search.{foundOf}
+use Rattle.delegation.specs.Picking.{picked, Picked}
+use Rattle.delegation.specs.Search.{grantsOf, bestOf, bestChain, foundOf, chainOf}
 use Rattle.delegation.specs.ChainUnit.{chainSized, chainInOrder, chainCheckNumber, chainFound, chainBuffer}
 use Rattle.bits.proofs.Sets.{fst, snd, both, by-cases, find}
 use Rattle.model.proofs.Invariant.{passed, asked-in, asked-limits}
@@ -22,19 +25,36 @@ use Rattle.model.proofs.Chain.{meets-access, greatest-exists}
 use Rattle.layouts.specs.Laws.{Laws}
 use Rattle.model.proofs.Commands.{small}
 use Rattle.layouts.proofs.Layouts.{order-live}
-use Rattle.delegation.proofs.Search.{meets, dead-no}
+use Rattle.delegation.proofs.Picking.{picked-are-these, picked-only}
+use Rattle.delegation.proofs.Search.{best-meets, meets, dead-no}
 
 -- what the four rules derive from the grants and carrying loans of the images
 abbrev pub ImageAccess : Images → ℕ → ℕ → ℕ → ℕ → Type 0
 ImageAccess s = Access lender borrower loanDepth (λ p o r d. standingIn (s .grants) (grant p o r d) ≡ true) (WordCarries (s .loans))
 
--- the search alone, of any images, in order or not
+-- what they derive from 64 grant bytes and some loans, on the one item and right that these are of
+abbrev pub GivenAccess : List ℕ → List ℕ → ℕ → ℕ → ℕ → ℕ → Type 0
+GivenAccess bytes ls =
+    Access lender borrower loanDepth (λ p o r d. (p ≤ 63) × (bit (getD bytes p 0) d ≡ true)) (λ o r w. any (eqb w) ls ≡ true)
+
+-- the search alone, by what it is given
+pub best-decides : (bytes : List ℕ) → ((i : ℕ) → i < 64 → getD bytes i 0 < 256) → (ls : List ℕ) (p o r : ℕ) → p ≤ 63 → (d : ℕ)
+    → GivenAccess bytes ls p o r d ↔ (bestOf bytes ls p .yes ≡ true) × (d ≤ bestOf bytes ls p .depth)
+best-decides bytes small ls p o r hp d =
+    meets-access lender borrower loanDepth (λ p o r d. (p ≤ 63) × (bit (getD bytes p 0) d ≡ true)) (λ o r w. any (eqb w) ls ≡ true) p o r
+    (best-meets bytes small ls p hp) d
+
+-- the check, of any images, in order or not
 pub search-decides : (s : Images) → ((i : ℕ) → getD (s .grants) i 0 < 256) → (p o r : ℕ) → p ≤ 63 → o ≤ 63 → r ≤ 7 → (d : ℕ)
     → ImageAccess s p o r d ↔ (foundOf (s .grants) (s .loans) (8 * o + r) p .yes ≡ true)
     × (d ≤ foundOf (s .grants) (s .loans) (8 * o + r) p .depth)
 search-decides s bytes p o r hp ho hr d =
     meets-access lender borrower loanDepth (λ p o r d. standingIn (s .grants) (grant p o r d) ≡ true) (WordCarries (s .loans)) p o r
-    (meets s bytes p o r hp ho hr) d
+    (meets s bytes o r ho hr p hp) d
+
+loans-rise : (live : ℕ → Bool) (t : List ℕ) → loansInOrder live t ≡ true → rising (used t) ≡ true
+unfolding loansInOrder
+loans-rise live t h = search (fst, snd)
 
 -- the check of person p on item o, right r
 module _ (s : Images) (bytes : (i : ℕ) → getD (s .grants) i 0 < 256) (buffer : List ℕ) (p o r : ℕ)
@@ -42,11 +62,27 @@ module _ (s : Images) (bytes : (i : ℕ) → getD (s .grants) i 0 < 256) (buffer
   judged : (chainInOrder s ≡ true) × (asked p o r ≡ 0)
   judged = passed 1 (chainInOrder s) _ (passed 0 (chainSized s (eqb (length buffer) 8)) _ free .1)
 
+  -- 'Those picked are proved to be exactly these loans, each once and rising': there are such loans, and
+  pub check-picks : Picked (s .loans) o r (picked (s .loans) (8 * o + r))
+  check-picks =
+      picked-are-these (s .loans) o r (asked-limits p o r (judged .1) .2)
+      (loans-rise _ (s .loans) (snd (inOrder grantBytes (s .grants)) _ (judged .0)))
+
+  -- 'the search is given no other loan': whatever list is these, the answer and the chain are the search's by it and by the grant bytes of
+  -- the item and right
+  pub check-searches : (ls : List ℕ) → Picked (s .loans) o r ls
+      → (chainFound s buffer p o r ≡ bestOf (grantsOf (s .grants) (8 * o + r)) ls p)
+      × (chainBuffer s buffer p o r ≡ bestChain (grantsOf (s .grants) (8 * o + r)) ls p)
+  unfolding foundOf chainOf
+  check-searches ls these =
+      let e = picked-only (s .loans) o r (picked (s .loans) (8 * o + r)) ls check-picks these in
+      rw free (ap (λ (x : List ℕ). bestOf (grantsOf (s .grants) (8 * o + r)) x p) e, ap (λ (x : List ℕ). bestChain (grantsOf (s .grants) (8 * o + r)) x p) e)
+
   -- yes exactly when a chain exists, with the greatest last allowance of any, and the bytes of one that has it
   pub check-meets : Meets (λ ps a. ImageChain s o r ps p a) (chainFound s buffer p o r) (chainBuffer s buffer p o r)
   check-meets =
       let b = asked-limits p o r (judged .1) in
-      rw free (meets s bytes p o r (b .0) (b .1) (b .2))
+      rw free (meets s bytes o r (b .1) (b .2) p (b .0))
 
   -- yes exactly when the rules derive the access, with the greatest depth derivable
   pub rules-decide : (d : ℕ) → ImageAccess s p o r d ↔ (chainFound s buffer p o r .yes ≡ true) × (d ≤ chainFound s buffer p o r .depth)

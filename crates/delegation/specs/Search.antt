@@ -1,32 +1,37 @@
--- The check's search: the carrying loans of the item and right are picked once, then come rounds by number of loans.
+-- The check's search, by the 64 grant bytes of the item and right and the loans picked for them, and nothing else: rounds by number of
+-- loans.
 -- Round k has for each person 0, or 1 + the greatest allowance of the chains to that person with exactly k loans. A loan costs one, so
 -- rounds 0 to 7 have all chains. Which of the best chains is written is fixed here; what it is worth is `Meets` alone.
-use mathlib.Core.Bool.{Bool, true, false, _&&_, cond}
+use mathlib.Core.Path.{_≡_}
+use mathlib.Core.Bool.{true, false, cond}
 use mathlib.Core.List.{List, [], _∷_, _++_}
-use Prim.Native.Nat.{ℕ, zero, suc, _+_, _-_, _*_, min}
+use Prim.Native.Nat.{ℕ, zero, suc, _+_, _-_, _*_, _≤_, min}
 use lib.Dec.{eqb}
 use lib.Count.{leadingZeros}
-use lib.ListN.{length, getD, replicate}
+use lib.ListN.{length, getD, take, drop, replicate}
+use Rattle.bits.specs.Bits.{bit}
+use Rattle.bits.specs.Sets.{any, tabulate, most, firstAt}
 use Rattle.model.specs.Answers.{Found}
-use Rattle.model.specs.Journal.{carries}
-use Rattle.bits.specs.Sets.{keep, tabulate, most, firstAt}
-use Rattle.delegation.specs.Loans.{keyOf, lastShift, lender, borrower, loanDepth, shiftIn, used}
+use Rattle.model.specs.Chain.{Chain}
+use Rattle.delegation.specs.Loans.{lender, borrower, loanDepth}
+use Rattle.delegation.specs.Picking.{picked}
 
--- a loan of one item and right that carries at shift now
-abbrev pub picks : ℕ → ℕ → ℕ → Bool
-picks now key w = eqb (keyOf w) key && carries now (lastShift w)
+-- the 64 grant bytes of one item and right, a byte for each person
+unfoldable pub grantsOf : List ℕ → ℕ → List ℕ
+grantsOf gs key = take 64 (drop (8 + 64 * key) gs)
 
--- the carrying loans of one item and right, each once, rising
-unfoldable pub picked : List ℕ → ℕ → List ℕ
-picked t key = keep (picks (shiftIn t) key) (used t)
+-- a chain of the grants in 64 bytes and of loans ls: all that the search is given
+abbrev pub GivenChain : List ℕ → List ℕ → List ℕ → ℕ → ℕ → Type 0
+GivenChain bytes ls =
+    Chain lender borrower loanDepth (λ p e. (p ≤ 63) × (bit (getD bytes p 0) e ≡ true)) (λ w. any (eqb w) ls ≡ true)
 
 -- 'its greatest depth is the place of its highest set bit': that place + 1, or 0 for a byte of no grant
 abbrev pub height : ℕ → ℕ
 height b = 8 - leadingZeros 8 b
 
--- round 0, from the 64 grant bytes that begin at base
-unfoldable pub grantRound : List ℕ → ℕ → List ℕ
-grantRound gs base = tabulate 64 (λ (p : ℕ). height (getD gs (base + p) 0))
+-- round 0, from the 64 grant bytes
+unfoldable pub grantRound : List ℕ → List ℕ
+grantRound bytes = tabulate 64 (λ (p : ℕ). height (getD bytes p 0))
 
 -- what a loan passes on where its lender's entry is v
 abbrev pub gain : ℕ → ℕ → ℕ
@@ -64,26 +69,34 @@ traced rounds ls zero q = q ∷ []
 traced rounds ls (suc k) q =
     traced rounds ls k (lenderTo ls (getD rounds k []) q (column rounds q (suc k)) (length ls)) ++ (q ∷ [])
 
--- ---- the check of a person, by the grants image gs and the loans image t
-unfoldable pub roundsOf : List ℕ → List ℕ → ℕ → List (List ℕ)
-roundsOf gs t key = tabulate 8 (roundAt (grantRound gs (8 + 64 * key)) (picked t key))
+-- ---- the search for a person, by 64 grant bytes and loans ls
+unfoldable pub roundsOf : List ℕ → List ℕ → List (List ℕ)
+roundsOf bytes ls = tabulate 8 (roundAt (grantRound bytes) ls)
 
 -- 0, or the greatest allowance + 1
-unfoldable pub heightOf : List ℕ → List ℕ → ℕ → ℕ → ℕ
-heightOf gs t key who = most (column (roundsOf gs t key) who) 8
+unfoldable pub heightOf : List ℕ → List ℕ → ℕ → ℕ
+heightOf bytes ls who = most (column (roundsOf bytes ls) who) 8
 
 -- the loans of the chain that is written
-unfoldable pub lengthOf : List ℕ → List ℕ → ℕ → ℕ → ℕ
-lengthOf gs t key who = firstAt (column (roundsOf gs t key) who) 8
+unfoldable pub lengthOf : List ℕ → List ℕ → ℕ → ℕ
+lengthOf bytes ls who = firstAt (column (roundsOf bytes ls) who) 8
 
--- the answer, and the chain buffer
-unfoldable pub foundOf : List ℕ → List ℕ → ℕ → ℕ → Found
-foundOf gs t key who =
-    cond (eqb (heightOf gs t key who) 0) (record { yes = false; depth = 0; persons = 0 })
-    (record { yes = true; depth = heightOf gs t key who - 1; persons = lengthOf gs t key who + 1 })
+-- what is found
+unfoldable pub bestOf : List ℕ → List ℕ → ℕ → Found
+bestOf bytes ls who =
+    cond (eqb (heightOf bytes ls who) 0) (record { yes = false; depth = 0; persons = 0 })
+    (record { yes = true; depth = heightOf bytes ls who - 1; persons = lengthOf bytes ls who + 1 })
 
 -- the chain buffer: 'p0 first, 255 after the end'; 'on no, all 8 bytes are 255'
+unfoldable pub bestChain : List ℕ → List ℕ → ℕ → List ℕ
+bestChain bytes ls who =
+    cond (eqb (heightOf bytes ls who) 0) (replicate 8 255)
+    (traced (roundsOf bytes ls) ls (lengthOf bytes ls who) who ++ replicate (7 - lengthOf bytes ls who) 255)
+
+-- ---- the check of a person, by the grants image gs and the loans image t: the loans are picked, then the search begins
+unfoldable pub foundOf : List ℕ → List ℕ → ℕ → ℕ → Found
+foundOf gs t key who = bestOf (grantsOf gs key) (picked t key) who
+
+-- and its chain buffer
 unfoldable pub chainOf : List ℕ → List ℕ → ℕ → ℕ → List ℕ
-chainOf gs t key who =
-    cond (eqb (heightOf gs t key who) 0) (replicate 8 255)
-    (traced (roundsOf gs t key) (picked t key) (lengthOf gs t key who) who ++ replicate (7 - lengthOf gs t key who) 255)
+chainOf gs t key who = bestChain (grantsOf gs key) (picked t key) who

@@ -1,6 +1,5 @@
-pub mod Picking
-pub mod Runs
 pub mod Rounds
 pub mod Trace
 pub mod Settling
+pub mod Lending
 pub mod Outcome

@@ -2,30 +2,24 @@
 use mathlib.Core.Path.{_≡_, refl, sym, ap, ap₂, _∙_, subst}
 use mathlib.Core.Bool.{cond}
 use mathlib.Core.List.{List, []}
-use mathlib.Core.Logic.{⊎-elim, by-cases}
+use mathlib.Core.Logic.{⊎-elim}
 use Prim.Native.Nat.{ℕ, zero, suc, _+_, _-_, _≤_, _<_, max}
 use native.Mathlib.Omega.{arith}
 use native.Mathlib.Nat.{add-zero, add-suc}
 use native.Mathlib.Numerals.{add-one}
-use native.Mathlib.Decide.{ℕ-discrete}
 use lib.Dec.{ltb}
 use borrow.Author.Tests.{le-ltb}
 use lib.ListN.{length, getD}
 use Rattle.bits.specs.Sets.{tabulate, most, firstAt}
-use Rattle.delegation.specs.Loans.{lender, borrower}
-use Rattle.delegation.specs.Search.{arrive, arriving, nextRound, roundAt, column}
-use Rattle.delegation.proofs.Search.{arrive-here, arrive-else}
+use Rattle.delegation.specs.Loans.{lender}
+use Rattle.delegation.specs.Search.{arriving, nextRound, roundAt, column}
 use Rattle.bits.proofs.Indexed.{getD-tabulate, most-above, first-le, split}
 use Rattle.search.specs.Settled.{Settled}
+use Rattle.search.proofs.Rounds.{most-le, arrive-le}
 
 -- ---- the greatest of some values, and its first place
-most-le : (f : ℕ → ℕ) (n b : ℕ) → ((k : ℕ) → k < n → f k ≤ b) → most f n ≤ b
-unfolding most
-most-le f zero b h = omega arith
-most-le f (suc n) b h = let l = most-le f n b (λ k l. h k (omega arith)) in let m = h n (omega arith) in omega arith
-
 module _ (f g : ℕ → ℕ) where
-  most-ext : (n : ℕ) → ((k : ℕ) → k < n → f k ≡ g k) → most f n ≡ most g n
+  pub most-ext : (n : ℕ) → ((k : ℕ) → k < n → f k ≡ g k) → most f n ≡ most g n
   unfolding most
   most-ext zero e = refl
   most-ext (suc n) e = ap₂ max (most-ext n (λ k h. e k (omega arith))) (e n (omega arith))
@@ -49,18 +43,14 @@ module _ (f : ℕ → ℕ) (n m : ℕ) (low : (k : ℕ) → n ≤ k → k < m �
       let l = low (n + d) (omega arith) (omega arith) in
       rw add-suc (omega arith, rw (le-ltb (most f (n + d)) (f (n + d)) (omega arith)) (r .1))
 
-  unchanged : n ≤ m → (most f m ≡ most f n) × (firstAt f m ≡ firstAt f n)
+  pub unchanged : n ≤ m → (most f m ≡ most f n) × (firstAt f m ≡ firstAt f n)
   unchanged h =
       let e : n + (m - n) ≡ m = omega arith in
       let r = and-more (m - n) (omega arith) in
       (ap (most f) (sym e) ∙ r .0, ap (firstAt f) (sym e) ∙ r .1)
 
 -- ---- rounds
-arrive-le : (v w q : ℕ) → arrive v w q ≤ v - 1
-arrive-le v w q =
-    by-cases (ℕ-discrete (borrower w) q) (λ e. omega (arith, arrive-here v w q e)) (λ e. omega (arith, arrive-else v w q e))
-
-next-le : (ls round : List ℕ) (b : ℕ) → ((p : ℕ) → p < 64 → getD round p 0 ≤ b) → (q : ℕ) → q < 64 → getD (nextRound ls round) q 0 ≤ b - 1
+pub next-le : (ls round : List ℕ) (b : ℕ) → ((p : ℕ) → p < 64 → getD round p 0 ≤ b) → (q : ℕ) → q < 64 → getD (nextRound ls round) q 0 ≤ b - 1
 unfolding nextRound
 next-le ls round b all q h =
     let m = most-le (arriving ls round q) (length ls) (b - 1)
@@ -77,9 +67,11 @@ module _ (first ls : List ℕ) (k : ℕ) where
       (λ p d. ⊎-elim (λ (e : k ≡ j). subst (λ (n : ℕ). getD (roundAt first ls n) p 0 ≤ b) e (all p d))
       (λ (o : k < j). let r = later-le b all j o p d in omega arith) (split h)) q l
 
-  -- rounds 0 to k are made, round 0 stands in place of the later ones, and top is the person's greatest entry so far
+  -- rounds before k are made, round k has the person's entry, round 0 stands in place of the later ones, and top is the person's greatest
+  -- entry so far
   module _ (rounds : List (List ℕ)) (who top : ℕ) (in-range : who < 64) (in-time : k ≤ 7)
-      (made : (j : ℕ) → j < k + 1 → getD rounds j [] ≡ roundAt first ls j) (rest : (j : ℕ) → k < j → j < 8 → getD rounds j [] ≡ first)
+      (made : (j : ℕ) → j < k → getD rounds j [] ≡ roundAt first ls j) (here : column rounds who k ≡ getD (roundAt first ls k) who 0)
+      (rest : (j : ℕ) → k < j → j < 8 → getD rounds j [] ≡ first)
       (top-is : top ≡ most (λ (j : ℕ). getD (roundAt first ls j) who 0) (k + 1)) where
     abbrev whole : List (List ℕ)
     whole = tabulate 8 (roundAt first ls)
@@ -93,14 +85,17 @@ module _ (first ls : List ℕ) (k : ℕ) where
     entry-at : (j : ℕ) → j < 8 → column whole who j ≡ entry j
     entry-at j h = ap (λ (x : List ℕ). getD x who 0) (whole-at j h)
 
+    even : (j : ℕ) → j < k + 1 → column rounds who j ≡ column whole who j
+    even j h =
+        ⊎-elim (λ (e : j ≡ k). ap (column rounds who) e ∙ here ∙ sym (entry-at k (omega arith)) ∙ ap (column whole who) (sym e))
+        (λ (l : j < k). ap (λ (x : List ℕ). getD x who 0) (made j l ∙ sym (whole-at j (omega arith)))) (split (subst (λ (n : ℕ). j < n) (add-one k) h))
+
     -- where no later entry is greater
     pub settled : ((j : ℕ) → k < j → j < 8 → getD (roundAt first ls j) who 0 ≤ top) → Settled (tabulate 8 (roundAt first ls)) rounds who
     unfolding roundAt
     settled low =
         let so-far : most (column whole who) (k + 1) ≡ top = most-ext (column whole who) entry (k + 1) (λ j h. entry-at j (omega arith))
         ∙ sym top-is in
-        let same : (j : ℕ) → j < k + 1 → getD rounds j [] ≡ getD whole j [] = λ j h. made j h ∙ sym (whole-at j (omega arith)) in
-        let even : (j : ℕ) → j < k + 1 → column rounds who j ≡ column whole who j = λ j h. ap (λ (x : List ℕ). getD x who 0) (same j h) in
         let m = most-ext (column rounds who) (column whole who) (k + 1) even in
         let w = unchanged (column whole who) (k + 1) 8 (λ j h l. omega (arith, entry-at j l, low j (omega arith) l)) (omega arith) in
         let r = unchanged (column rounds who) (k + 1) 8
@@ -110,14 +105,13 @@ module _ (first ls : List ℕ) (k : ℕ) where
         record {
           value = r .0 ∙ m ∙ sym (w .0);
           at = r .1 ∙ first-ext (column rounds who) (column whole who) (k + 1) even ∙ sym (w .1);
-          same = λ j h. same j (omega (arith, w .1));
+          same = λ j h. made j (omega (arith, w .1)) ∙ sym (whole-at j (omega (arith, w .1)));
         }
 
-    -- where a loan leaves no more than top of the greatest entry of round k
-    pub settled-early : most (λ (p : ℕ). getD (roundAt first ls k) p 0) 64 - 1 ≤ top → Settled (tabulate 8 (roundAt first ls)) rounds who
-    settled-early h =
-        let g : ℕ → ℕ = λ (p : ℕ). getD (roundAt first ls k) p 0 in
-        settled (λ j l d. omega (arith, later-le (most g 64) (λ p b. most-above g 64 p b) j l who in-range))
+    -- where a loan leaves no more than top of every entry of round k
+    pub settled-early : (b : ℕ) → ((p : ℕ) → p < 64 → getD (roundAt first ls k) p 0 ≤ b) → b - 1 ≤ top
+        → Settled (tabulate 8 (roundAt first ls)) rounds who
+    settled-early b all h = settled (λ j l d. omega (arith, later-le b all j l who in-range))
 
     pub settled-last : k ≡ 7 → Settled (tabulate 8 (roundAt first ls)) rounds who
     settled-last e = settled (λ j l d. absurd (omega arith))

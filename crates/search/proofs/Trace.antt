@@ -1,10 +1,10 @@
 -- Laws of the loop that reads a chain off the rounds, and of the loop that finds a lender for it.
-use mathlib.Core.Path.{_≡_, refl, sym, ap, _∙_}
+use mathlib.Core.Path.{_≡_, refl, sym, ap, subst, _∙_}
 use mathlib.Core.Bool.{Bool, true, false, cond}
 use mathlib.Core.List.{List, [], _∷_, _++_, append-assoc}
-use Prim.Native.Nat.{ℕ, zero, suc, _-_, _≤_, _<_}
+use Prim.Native.Nat.{ℕ, zero, suc, _+_, _-_, _≤_, _<_}
 use native.Mathlib.Omega.{arith}
-use native.Mathlib.Nat.{suc-sub-suc, sub-zero, zero-sub}
+use native.Mathlib.Nat.{add-zero, suc-sub-suc, sub-zero, zero-sub}
 use lib.Dec.{eqb}
 use borrow.Author.Tests.{eq-eqb, ne-eqb}
 use lib.ListN.{length, getD, set, drop, replicate, length-set}
@@ -25,6 +25,15 @@ module _ (ls round : List ℕ) (q v i x : ℕ) (h : 0 < i) (got : x ≡ arriving
 
   pub lender-else : (x ≡ v → ⊥) → lenderTo ls round q v i ≡ lenderTo ls round q v (i - 1)
   lender-else ne = last i h ∙ rw (ne-eqb _ _ (λ e. ne (got ∙ e)))
+
+-- loans that pass another number on
+pub lender-skip : (ls round : List ℕ) (q v i d : ℕ) → ((j : ℕ) → i ≤ j → j < i + d → arriving ls round q j ≡ v → ⊥)
+    → lenderTo ls round q v (i + d) ≡ lenderTo ls round q v i
+lender-skip ls round q v i zero ne = ap (lenderTo ls round q v) (add-zero i)
+lender-skip ls round q v i (suc d) ne =
+    let e : i + suc d - 1 ≡ i + d = omega arith in
+    lender-else ls round q v (i + suc d) _ (omega arith) refl (subst (λ (n : ℕ). arriving ls round q n ≡ v → ⊥) (sym e) (ne (i + d) (omega arith) (omega arith)))
+    ∙ ap (lenderTo ls round q v) e ∙ lender-skip ls round q v i d (λ j h l. ne j h (omega arith))
 
 pub lender-lt : (ls round : List ℕ) (q v n : ℕ) → lenderTo ls round q v n < 64
 unfolding lenderTo
@@ -58,17 +67,17 @@ unfolding traced
 traced-end rounds ls [] q h = absurd (omega arith)
 traced-end rounds ls (x ∷ l) q h = refl
 
--- the chain depends on the rounds up to its own only
-pub traced-ext : (r s : List (List ℕ)) (ls : List ℕ) (k q : ℕ) → ((j : ℕ) → j ≤ k → getD r j [] ≡ getD s j [])
+-- the chain depends on the rounds before its own, and on its last person's entry in that
+pub traced-ext : (r s : List (List ℕ)) (ls : List ℕ) (k q : ℕ) → ((j : ℕ) → j < k → getD r j [] ≡ getD s j []) → column r q k ≡ column s q k
     → traced r ls k q ≡ traced s ls k q
 unfolding traced
-traced-ext r s ls zero q e = refl
-traced-ext r s ls (suc k) q e =
+traced-ext r s ls zero q e here = refl
+traced-ext r s ls (suc k) q e here =
     let p : ℕ = lenderTo ls (getD r k []) q (column r q (suc k)) (length ls) in
     let below = e k (omega arith) in
-    let here = e (suc k) (omega arith) in
     ap (λ (l : List ℕ). l ++ (q ∷ []))
-    (traced-ext r s ls k p (λ j h. e j (omega arith)) ∙ (λ j. traced s ls k (lenderTo ls (below j) q (getD (here j) q 0) (length ls))))
+    (traced-ext r s ls k p (λ j h. e j (omega arith)) (λ j. getD (below j) p 0)
+    ∙ (λ j. traced s ls k (lenderTo ls (below j) q (here j) (length ls))))
 
 drop-replicate : (j n : ℕ) (a : ℕ) → drop j (replicate n a) ≡ replicate (n - j) a
 drop-replicate zero n a = rw sub-zero refl

@@ -1,4 +1,4 @@
 pub mod Entry
-pub mod InShape
-pub mod Picked
+pub mod Lending
+pub mod Raised
 pub mod Settled

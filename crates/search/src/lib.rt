@@ -1,39 +1,32 @@
-// The search for the best chain of a person on an item and right: the greatest last allowance of any, and a chain that has it.
-// The carrying loans of the item and right are picked once. Round k has for each person 0, or 1 + the greatest allowance of the chains
-// to that person with exactly k loans; a loan costs one, so rounds 0 to 7 have all chains.
+// The search for the best chain of a person on one item and right: the greatest last allowance of any, and a chain that has it. It is
+// given the 64 grant bytes of that item and right and the loans picked for them, and nothing else.
+// Round k has for each person 0, or 1 + the greatest allowance of the chains to that person with exactly k loans; a loan costs one, so
+// rounds 0 to 7 have all chains.
 use delegation::loan;
-use delegation::loan::Header;
 use model::ChainChecked;
 use model::Depth;
 use model::DepthRead;
 use model::Item;
-use model::Right;
-use model::Shift;
 ghost use mathlib.Core.Path.{_≡_};
-ghost use mathlib.Core.Bool.{true, cond};
-ghost use mathlib.Core.List.{[], _++_};
-ghost use Prim.Native.Nat.{ℕ, _+_, _-_, _*_, _%_, _≤_, _<_, max};
+ghost use mathlib.Core.Bool.{cond};
+ghost use mathlib.Core.List.{_++_};
+ghost use Prim.Native.Nat.{ℕ, _+_, _-_, _≤_, _<_, min, max};
 ghost use lib.Dec.{eqb, ltb};
-ghost use lib.ListN.{length, getD, set, take, replicate};
-ghost use Rattle.bits.specs.Sets.{keep, tabulate, most, firstAt};
-ghost use Rattle.model.specs.Commands.{mostLoans};
+ghost use lib.ListN.{length, getD, set, replicate};
+ghost use Rattle.bits.specs.Sets.{tabulate, allBelow, most, firstAt};
 ghost use Rattle.model.specs.Answers.{foundSaid};
-ghost use Rattle.layouts.specs.Layouts.{grantCells};
-ghost use Rattle.delegation.specs.Loans.{keyOf, rising, loanWords, countOf, shiftIn, used, lender, borrower};
-ghost use Rattle.delegation.specs.Search.{picks, gain, arrive, grantRound, nextRound, roundAt, column, lenderTo, traced, foundOf, chainOf};
-ghost use Rattle.search.specs.InShape.{InShape};
+ghost use Rattle.delegation.specs.Loans.{lender, borrower, loanDepth};
+ghost use Rattle.delegation.specs.Search.{gain, arrive, grantRound, nextRound, roundAt, column, lenderTo, traced, bestOf, bestChain};
 ghost use Rattle.search.specs.Entry.{entryFound};
-ghost use Rattle.search.specs.Picked.{ofKey, Appended, Below};
+ghost use Rattle.search.specs.Lending.{lentTo, passedOn, isToOther, ToOthers};
+ghost use Rattle.search.specs.Raised.{Raised, NoneAbove};
 ghost use Rattle.search.specs.Settled.{Settled};
 
-// How many loans an image holds.
-const MANY: usize = 1024;
-
-// How many have room in a small buffer, which is sooner made.
-const FEW: usize = 64;
-
-// How many are passed over at once.
+// How many loans to others are passed over at once.
 const BLOCK: usize = 16;
+
+// How many loans of lenders with nothing left are.
+const FOUR: usize = 4;
 
 // How many entries a round has, one for each person.
 const PERSONS: usize = 64;
@@ -44,142 +37,21 @@ const ROUNDS: usize = 8;
 // The last round.
 const LAST: usize = 7;
 
-// Where the grants of the first item and right begin, after the live set.
-const ROLL: usize = 8;
-
 // How many places a chain has.
 const PLACES: usize = 8;
 
 // What stands in a place that holds no person.
 const NOBODY: u8 = 255;
 
-// The number of loans in use.
-fn in_use(loans: &[u32]) -> usize
-    requires { ⌜ 0 < length (now loans) ⌝ }
-    ensures { λ r. ⌜ r ≡ countOf (now (loans .entry)) ⌝ }
-{
-    let header = Header::read(loans[0]);
-    header.count as usize
-}
-
-// The present shift, cut to its range.
-fn present(loans: &[u32]) -> Shift
-    requires { ⌜ 0 < length (now loans) ⌝ }
-    ensures { λ r. ⌜ r .0 ≡ shiftIn (now (loans .entry)) % 256 ⌝ }
-{
-    let header = Header::read(loans[0]);
-    header.present()
-}
-
-// 1 for a loan of the key, else 0.
-fn counted(w: u32, key: u32) -> u32
-    ensures { λ r. ⌜ (r ≤ 1) × (r ≡ cond (eqb (keyOf w) key) 1 0) ⌝ }
-{
-    if loan::key_of(w) == key { 1 } else { 0 }
-}
-
-// 0 only where none of the loans is of the key.
-fn seen(loans: &[u32], key: u32) -> u32
-    ensures { λ r. ⌜ (r ≡ 0 → keep (ofKey key) (now (loans .entry)) ≡ []) ⌝ }
-{
-    let mut hits = 0u32;
-    let mut j = 0;
-    while j < loans.len() {
-        hits |= counted(loans[j], key);
-        j += 1;
-    }
-    hits
-}
-
-// Puts the loans of the key behind the `m` picked before. Each loan is written, and the next one overwrites it where it does not count.
-fn pick_part(out: &mut [u32], loans: &[u32], m: usize, key: u32) -> usize
-    requires { ⌜ m + length (now loans) ≤ length (now out) ⌝ }
-    ensures { λ r. ⌜ Appended (now (out .entry)) m (now (loans .entry)) key r (now (out .exit)) ⌝ }
-{
-    let mut m = m;
-    let mut i = 0;
-    while i < loans.len() {
-        let w = loans[i];
-        out[m] = w;
-        m += counted(w, key) as usize;
-        i += 1;
-    }
-    m
-}
-
-// The same. Most loans have another key, and a test of all at once passes them over.
-fn pick_block(out: &mut [u32], loans: &[u32], m: usize, key: u32) -> usize
-    requires { ⌜ m + length (now loans) ≤ length (now out) ⌝ }
-    ensures { λ r. ⌜ Appended (now (out .entry)) m (now (loans .entry)) key r (now (out .exit)) ⌝ }
-{
-    if seen(loans, key) == 0 {
-        return m;
-    }
-    pick_part(out, loans, m, key)
-}
-
-// The same for many loans, 16 at a time.
-fn pick_run(out: &mut [u32], loans: &[u32], m: usize, key: u32) -> usize
-    requires { ⌜ m + length (now loans) ≤ length (now out) ⌝ }
-    ensures { λ r. ⌜ Appended (now (out .entry)) m (now (loans .entry)) key r (now (out .exit)) ⌝ }
-{
-    let mut m = m;
-    let mut i = 0;
-    while BLOCK <= loans.len() - i {
-        m = pick_block(out, &loans[i..i + BLOCK], m, key);
-        i += BLOCK;
-    }
-    pick_part(out, &loans[i..], m, key)
-}
-
-// How many of rising words lie below a number, by halving.
-fn below(words: &[u32], x: u32) -> usize
-    requires { ⌜ rising (now words) ≡ true ⌝ }
-    ensures { λ r. ⌜ Below (now (words .entry)) x r ⌝ }
-{
-    let mut lo: usize = 0;
-    let mut hi = words.len();
-    while lo < hi {
-        let mid = lo + (hi - lo) / 2;
-        if words[mid] < x {
-            lo = mid + 1;
-        } else {
-            hi = mid;
-        }
-    }
-    lo
-}
-
-// The greater of two places.
-fn later(a: usize, b: usize) -> usize
-    ensures { λ r. ⌜ r ≡ max a b ⌝ }
-{
-    if a < b { b } else { a }
-}
-
-// The loans of the key that carry at that shift, in their order, to the front of `out`, and their number. Of rising loans the open-ended
-// come first, then those that are past, then the others that carry: so two runs have all.
-fn pick(out: &mut [u32], loans: &[u32], key: u32, shift: Shift) -> usize
-    requires { ⌜ (length (now loans) ≤ length (now out)) × (rising (now loans) ≡ true) × (shift .0 ≤ 255) ⌝ }
-    ensures { λ r. ⌜ (r ≤ length (now (loans .entry)))
-        × (take r (now (out .exit)) ≡ keep (picks (shift .0) key) (now (loans .entry))) ⌝ }
-{
-    let dated = below(loans, loan::DATED);
-    let current = below(loans, loan::least(shift));
-    let from = later(dated, current);
-    let m = pick_run(out, &loans[..dated], 0, key);
-    pick_run(out, &loans[from..], m, key)
-}
-
-// Round 0: the greatest depth + 1 of each of the 64 grant bytes from `base` on, or 0.
-fn grant_round(grants: &[u8], base: usize) -> [u8; PERSONS]
-    requires { ⌜ base + 64 ≤ length (now grants) ⌝ }
-    ensures { λ r. ⌜ r ≡ grantRound (now (grants .entry)) base ⌝ }
+// Round 0: the greatest depth + 1 of each of the 64 grant bytes, or 0.
+fn grant_round(grants: &[u8]) -> [u8; PERSONS]
+    requires { ⌜ length (now grants) ≡ 64 ⌝ }
+    ensures { λ r. ⌜ r ≡ grantRound (now (grants .entry)) ⌝ }
 {
     let mut round = [0u8; PERSONS];
     let mut p = 0;
     while p < PERSONS {
-        round[p] = (8 - u8::leading_zeros(grants[base + p])) as u8;
+        round[p] = (8 - u8::leading_zeros(grants[p])) as u8;
         p += 1;
     }
     round
@@ -248,41 +120,195 @@ fn raise(next: &mut [u8; PERSONS], v: u8, w: u32)
     next[q] = larger(next[q], gained);
 }
 
+// Raises the borrower's entry of each loan to what the loan passes on by its lender's entry.
+fn raise_each(next: &mut [u8; PERSONS], ls: &[u32], round: &[u8; PERSONS])
+    requires { ⌜ length (now next) ≡ 64 ⌝ }
+    ensures { λ _. ⌜ Raised (now (next .entry)) (now (ls .entry)) (now (round .entry)) (now (next .exit)) ⌝ }
+{
+    let mut i = 0;
+    while i < ls.len() {
+        let w = ls[i];
+        let p = loan::lender(w).number() as usize;
+        let v = round[p];
+        raise(next, v, w);
+        i += 1;
+    }
+}
+
+// The entries of the loans' lenders, ORed: at most 1 only where each is.
+fn entries_of(ls: &[u32], round: &[u8; PERSONS]) -> u8
+    ensures { λ r. ⌜ NoneAbove r (now (ls .entry)) (now (round .entry)) ⌝ }
+{
+    let mut all = 0u8;
+    let mut j = 0;
+    while j < ls.len() {
+        let p = loan::lender(ls[j]).number() as usize;
+        all |= round[p];
+        j += 1;
+    }
+    all
+}
+
+// The same as `raise_each`. In a round of few persons most lenders have nothing left, and one test passes over their loans.
+fn raise_block(next: &mut [u8; PERSONS], ls: &[u32], round: &[u8; PERSONS])
+    requires { ⌜ length (now next) ≡ 64 ⌝ }
+    ensures { λ _. ⌜ Raised (now (next .entry)) (now (ls .entry)) (now (round .entry)) (now (next .exit)) ⌝ }
+{
+    if entries_of(ls, round) <= 1 {
+        return;
+    }
+    raise_each(next, ls, round);
+}
+
 // The round with one loan more.
 fn next_round(ls: &[u32], round: &[u8; PERSONS]) -> [u8; PERSONS]
     ensures { λ r. ⌜ r ≡ nextRound (now (ls .entry)) (now (round .entry)) ⌝ }
 {
     let mut next = [0u8; PERSONS];
     let mut i = 0;
-    while i < ls.len() {
-        let w = ls[i];
-        let p = loan::lender(w).number() as usize;
-        let v = round[p];
-        raise(&mut next, v, w);
-        i += 1;
+    while FOUR <= ls.len() - i {
+        raise_block(&mut next, &ls[i..i + FOUR], round);
+        i += FOUR;
     }
+    raise_each(&mut next, &ls[i..], round);
     next
 }
 
+// 0 where the loan is to another than `q`.
+fn to_flag(w: u32, q: Item) -> u32
+    ensures { λ r. ⌜ eqb r 0 ≡ isToOther (q .0) w ⌝ }
+{
+    if loan::borrower(w).number() == q.number() {
+        4294967295
+    } else {
+        0
+    }
+}
+
+// 0 where every loan is to another than `q`.
+fn any_to(ls: &[u32], q: Item) -> u32
+    ensures { λ r. ⌜ eqb r 0 ≡ allBelow (length (now (ls .entry))) (λ (j : ℕ). isToOther (q .0) (getD (now (ls .entry)) j 0)) ⌝ }
+{
+    let mut hits = 0u32;
+    let mut j = 0;
+    while j < ls.len() {
+        hits |= to_flag(ls[j], q);
+        j += 1;
+    }
+    hits
+}
+
+// The end of the last 16 among the first `end` loans that are not all to others; where there is none, what is left of 16. A test of
+// 16 at once passes over the many loans to others.
+fn skip_back(ls: &[u32], end: usize, q: Item) -> usize
+    requires { ⌜ end ≤ length (now ls) ⌝ }
+    ensures { λ r. ⌜ (r ≤ end) × ToOthers (now (ls .entry)) (q .0) r end ⌝ }
+{
+    let mut i = end;
+    while BLOCK <= i {
+        if any_to(&ls[i - BLOCK..i], q) != 0 {
+            return i;
+        }
+        i -= BLOCK;
+    }
+    i
+}
+
+// Where the last loan to `q` among the first `end` stands, counted from 1; 0 where there is none.
+fn last_to(ls: &[u32], end: usize, q: Item) -> usize
+    requires { ⌜ end ≤ length (now ls) ⌝ }
+    ensures { λ r. ⌜ (r ≤ end) × ToOthers (now (ls .entry)) (q .0) r end ⌝ }
+{
+    let mut i = skip_back(ls, end, q);
+    while 0 < i {
+        if to_flag(ls[i - 1], q) != 0 {
+            return i;
+        }
+        i -= 1;
+    }
+    0
+}
+
+// The depth + 1 of a loan to `q`, else 0.
+fn limit_to(w: u32, q: Item) -> u8
+    ensures { λ r. ⌜ r ≡ cond (eqb (borrower w) (q .0)) (loanDepth w + 1) 0 ⌝ }
+{
+    if to_flag(w, q) == 0 {
+        return 0;
+    }
+    let depth = loan::depth(w);
+    depth.number() as u8 + 1
+}
+
+// Raises what a loan's lender lends to `q` at most to what that loan has.
+fn lend(row: &mut [u8; PERSONS], w: u32, q: Item)
+    ensures { λ _. ⌜ now (row .exit) ≡ set (now (row .entry)) (lender w)
+        (max (getD (now (row .entry)) (lender w) 0) (cond (eqb (borrower w) (q .0)) (loanDepth w + 1) 0)) ⌝ }
+{
+    let p = loan::lender(w).number() as usize;
+    let limit = limit_to(w, q);
+    row[p] = larger(row[p], limit);
+}
+
+// For each lender 0, or 1 + the greatest depth of its loans to `q`.
+fn lent_to(ls: &[u32], q: Item) -> [u8; PERSONS]
+    ensures { λ r. ⌜ r ≡ lentTo (now (ls .entry)) (q .0) ⌝ }
+{
+    let mut row = [0u8; PERSONS];
+    let mut i = last_to(ls, ls.len(), q);
+    while 0 < i {
+        lend(&mut row, ls[i - 1], q);
+        i = last_to(ls, i - 1, q);
+    }
+    row
+}
+
+// The smaller of two entries.
+fn smaller(a: u8, b: u8) -> u8
+    ensures { λ r. ⌜ r ≡ min a b ⌝ }
+{
+    if a < b { a } else { b }
+}
+
+// The greatest that is passed on to a person with these loans to them, by what their lenders have.
+fn passed_on(row: &[u8; PERSONS], round: &[u8; PERSONS]) -> u8
+    ensures { λ r. ⌜ r ≡ passedOn (now (row .entry)) (now (round .entry)) ⌝ }
+{
+    let mut m = 0u8;
+    let mut p = 0;
+    while p < PERSONS {
+        m = larger(m, smaller(left_of(round[p]), row[p]));
+        p += 1;
+    }
+    m
+}
+
 // Rounds 0, 1 and so on, until no later one can have a greater entry of `who`: a loan costs one, so all entries after a round are
-// below its greatest. In place of the later ones stands round 0.
+// below its greatest. The entry of `who` comes first: where that is enough, it stands alone in its round, and in place of all else that
+// was not made stands round 0.
 fn rounds_of(ls: &[u32], first: [u8; PERSONS], who: Item) -> [[u8; PERSONS]; ROUNDS]
     requires { ⌜ who .0 ≤ 63 ⌝ }
     ensures { λ r. ⌜ Settled (tabulate 8 (roundAt first (now (ls .entry)))) r (who .0) ⌝ }
 {
     let place = who.number() as usize;
+    let row = lent_to(ls, who);
     let mut rounds = [first; ROUNDS];
     let mut top = first[place];
     let mut k = 0;
     while k < LAST {
         let round = rounds[k];
-        if left_of(greatest(&round)) <= top {
+        let left = left_of(greatest(&round));
+        if left <= top {
             return rounds;
         }
-        let next = next_round(ls, &round);
-        top = larger(top, next[place]);
         k += 1;
-        rounds[k] = next;
+        let entry = passed_on(&row, &round);
+        top = larger(top, entry);
+        if left_of(left) <= top {
+            rounds[k][place] = entry;
+            return rounds;
+        }
+        rounds[k] = next_round(ls, &round);
     }
     rounds
 }
@@ -320,17 +346,29 @@ fn best_of(rounds: &[[u8; PERSONS]; ROUNDS], who: Item) -> Entry
     e
 }
 
+// Where the last loan among the first `end` stands that can pass `v` on to `q`, counted from 1; 0 where there is none. A loan to another
+// passes 0 on, so only where `v` is more are those passed over.
+fn last_passing(ls: &[u32], end: usize, q: Item, v: u8) -> usize
+    requires { ⌜ end ≤ length (now ls) ⌝ }
+    ensures { λ r. ⌜ (r ≤ end) × ToOthers (now (ls .entry)) (q .0) r end × (v ≡ 0 → r ≡ end) ⌝ }
+{
+    if v == 0 {
+        return end;
+    }
+    last_to(ls, end, q)
+}
+
 // The lender of the last loan that passes `v` on to `q`; where none does, item 0, as word 0 has it.
 fn lender_to(ls: &[u32], round: &[u8; PERSONS], q: Item, v: u8) -> Item
     ensures { λ r. ⌜ r .0 ≡ lenderTo (now (ls .entry)) (now (round .entry)) (q .0) v (length (now (ls .entry))) ⌝ }
 {
-    let mut i = ls.len();
+    let mut i = last_passing(ls, ls.len(), q, v);
     while 0 < i {
-        i -= 1;
-        let w = ls[i];
+        let w = ls[i - 1];
         if arrive_of(round, w, q) == v {
             return loan::lender(w);
         }
+        i = last_passing(ls, i - 1, q, v);
     }
     Item::root()
 }
@@ -384,56 +422,20 @@ fn said(e: Entry) -> ChainChecked
     }
 }
 
-// The answer to a check, and its chain, with room in `out` for the loans in use.
-fn best_in(
-    out: &mut [u32],
-    chain: &mut [u8],
-    grants: &[u8],
-    loans: &[u32],
-    key: u32,
-    who: Item,
-) -> ChainChecked
-    requires { ⌜ (length (now loans) ≡ loanWords) × (countOf (now loans) ≤ length (now out)) × (length (now out) ≤ mostLoans)
-        × (shiftIn (now loans) ≤ 255) × (rising (used (now loans)) ≡ true) × (length (now grants) ≡ grantCells)
-        × (key ≤ 511) × (who .0 ≤ 63) × (length (now chain) ≡ 8) ⌝ }
-    ensures { λ r. ⌜ (r ≡ foundSaid (foundOf (now (grants .entry)) (now (loans .entry)) key (who .0)))
-        × (now (chain .exit) ≡ chainOf (now (grants .entry)) (now (loans .entry)) key (who .0)) ⌝ }
+// The answer to a check, and its chain, by the grant bytes of its item and right and the loans picked for them. A helper for the unit,
+// which has judged the images and read the arguments: so it refuses nothing, and requires their lengths and ranges.
+pub fn best(grants: &[u8], loans: &[u32], who: Item, chain: &mut [u8]) -> ChainChecked
+    requires { ⌜ (length (now grants) ≡ 64) × (who .0 ≤ 63) × (length (now chain) ≡ 8) ⌝ }
+    ensures { λ r. ⌜ (r ≡ foundSaid (bestOf (now (grants .entry)) (now (loans .entry)) (who .0)))
+        × (now (chain .exit) ≡ bestChain (now (grants .entry)) (now (loans .entry)) (who .0)) ⌝ }
 {
-    let end = in_use(loans) + 1;
-    let shift = present(loans);
-    let m = pick(out, &loans[1..end], key, shift);
-    let ls = &out[..m];
-    let base = ROLL + PERSONS * key as usize;
-    let first = grant_round(grants, base);
-    let rounds = rounds_of(ls, first, who);
+    let first = grant_round(grants);
+    let rounds = rounds_of(loans, first, who);
     let e = best_of(&rounds, who);
     if e.value == 0 {
         clear(chain);
     } else {
-        write_chain(chain, ls, &rounds, who, e.at);
+        write_chain(chain, loans, &rounds, who, e.at);
     }
     said(e)
-}
-
-// The answer to a check, and its chain. A helper for the crate above, which has judged the images and read the arguments: so it
-// refuses nothing, and requires what they were judged for.
-pub fn best(
-    grants: &[u8],
-    loans: &[u32],
-    who: Item,
-    on: Item,
-    right: Right,
-    chain: &mut [u8],
-) -> ChainChecked
-    requires { ⌜ InShape (now grants) (now loans) (who .0) (on .0) (right .0) (length (now chain)) ⌝ }
-    ensures { λ r. ⌜ (r ≡ foundSaid (foundOf (now (grants .entry)) (now (loans .entry)) (8 * on .0 + right .0) (who .0)))
-        × (now (chain .exit) ≡ chainOf (now (grants .entry)) (now (loans .entry)) (8 * on .0 + right .0) (who .0)) ⌝ }
-{
-    let key = loan::key(on, right);
-    if in_use(loans) <= FEW {
-        let mut few = [0u32; FEW];
-        return best_in(&mut few, chain, grants, loans, key, who);
-    }
-    let mut many = [0u32; MANY];
-    best_in(&mut many, chain, grants, loans, key, who)
 }

@@ -1,5 +1,5 @@
--- A refusal by numbers 1 to 3 has its number (`chain-check-refused`); past them the images have the shape that the search asks for
--- (`in-shape`), and what it finds is the answer (`chain-check-says`).
+-- A refusal by numbers 1 to 3 has its number (`chain-check-refused`); past them the images have the shape that an answer asks for
+-- (`in-shape`), and what that finds is the check's (`chain-check-says`).
 use borrow.Author.Needs.{needs}
 use mathlib.Core.Path.{sym, _∙_}
 use Rattle.delegation.specs.Images.{images}
@@ -20,8 +20,8 @@ enum-known-a c = search needs
 enum-known-a-2 : tie.Need-enum-known-a-2
 enum-known-a-2 c = search needs
 
-best-requires : tie.Need-best-requires
-best-requires c κs =
+answer-requires : tie.Need-answer-requires
+answer-requires c κs =
     let arm = c .before .before in
     let start = arm .before .before .before .before .before .before .before in
     let order = arm .before .before .before .order in
@@ -46,7 +46,7 @@ returns-2 c =
     let arm = c .before .before .before .before .before in
     let start = arm .before .before .before .before .before .before .before in
     let order = arm .before .before .before .order in
-    let f = c .before .before .best .ensures in
+    let f = c .before .before .answer .ensures in
     chain-check-says (images (start .args .grants .now) (start .args .loans .now)) (start .args .chain .now)
     (start .args .who) (start .args .on) (start .args .right) (order .result) (order .ensures) _ _ _
     (sym (arm .a2 .given .1) ∙ arm .before .before .check .ensures) _ _ (f .0) (f .1)
@@ -59,7 +59,7 @@ check-spec =
     check-requires
     enum-known-a
     enum-known-a-2
-    best-requires
+    answer-requires
     returns
     same-length
     returns-2)

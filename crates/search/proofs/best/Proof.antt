@@ -1,71 +1,66 @@
--- The buffer has room for the loans in use, which are at most 64 in the one case and at most 1,024 in the other. Item and right are
--- within their limits, so a key that cuts each to its width is theirs.
+-- The rounds serve for this person as all eight do (`Searched`). The greatest entry then says what was found (`found-is`), and the chain is
+-- empty where it is 0 (`chain-no`), else the one traced (`chain-yes`).
 use borrow.Author.Needs.{needs}
-use native.Mathlib.Omega.{arith}
-use mathlib.Core.Path.{_≡_, _∙_}
-use Prim.Native.Nat.{_+_, _*_}
+use mathlib.Core.Path.{ap, _∙_}
+use mathlib.Core.Logic.{⊎-elim}
+use lib.ListN.{length}
 use Rattle.model.specs.Answers.{foundSaid}
-use Rattle.delegation.specs.Search.{foundOf, chainOf}
+use Rattle.search.proofs.Outcome.{Searched, searched, found-is, chain-no, chain-yes}
 use Rattle.search.proofs.best.Statement.{statement}
 use Rattle.search.proofs.best.Tie as tie
 
-key-requires : tie.Need-key-requires
-key-requires c κs = search needs
+-- what is known before the answer
+module _ (b : tie.After-best-of) where
+  abbrev start : tie.Start
+  start = b .before .before .before .before .before .before .before
 
-in-use-requires : tie.Need-in-use-requires
-in-use-requires c κs = search needs
+  known : let e = b .best-of .result in
+      Searched (start .args .grants .now) (start .args .loans .now) (start .args .who .0) (b .before .before .rounds-of .result) (e .value) (e .at)
+  known =
+      let f = b .before .before .before .grant-round in
+      let r = b .before .before .rounds-of in
+      let e = b .best-of in
+      searched (start .args .grants .now) (start .args .loans .now) (start .args .who .0) (f .result) (r .result) (e .result .value)
+      (e .result .at) (start .pre .1) (f .ensures) (r .ensures) (e .ensures .0) (e .ensures .1)
 
-slice-aggregate-best-in : tie.Need-slice-aggregate-best-in
-slice-aggregate-best-in c = search needs
+grant-round-requires : tie.Need-grant-round-requires
+grant-round-requires c κs = search needs
 
-best-in-requires : tie.Need-best-in-requires
-best-in-requires c κs = search needs
+rounds-of-requires : tie.Need-rounds-of-requires
+rounds-of-requires c κs = search needs
+
+best-of-requires : tie.Need-best-of-requires
+best-of-requires c κs = search needs
+
+clear-requires : tie.Need-clear-requires
+clear-requires c κs = search needs
+
+write-chain-requires : tie.Need-write-chain-requires
+write-chain-requires c κs = search needs
+
+said-requires : tie.Need-said-requires
+said-requires c κs = (known (c .before .before) .height-in, c .before .before .best-of .ensures .2)
 
 same-length : tie.Need-same-length
-same-length c = search needs
+same-length c = ⊎-elim (λ w. ap length (w .5) ∙ w .3 .given) (λ w. ap length (w .6) ∙ w .4 .given) (c .before .if1 .came)
 
 returns : tie.Need-returns
 returns c =
-    let a = c .before .before .before .before .before .before .before .before .before .before .before .before .args in
-    let p = c .before .before .before .before .before .before .before .before .before .before .before .before .pre in
-    let k : c .before .before .before .before .before .before .before .before .key .result ≡ 8 * a .on .0 + a .right .0 = omega
-    (arith, c .before .before .before .before .before .before .before .before .key .ensures, p .item, p .rights) in
-    let e = c .before .before .before .best-in .ensures in (
-      e .0 ∙ (λ j. foundSaid (foundOf (a .grants .now) (a .loans .now) (k j) (a .who .0))),
-      e .1 ∙ (λ j. chainOf (a .grants .now) (a .loans .now) (k j) (a .who .0)),
-    )
-
-slice-aggregate-best-in-2 : tie.Need-slice-aggregate-best-in-2
-slice-aggregate-best-in-2 c = search needs
-
-best-in-requires-2 : tie.Need-best-in-requires-2
-best-in-requires-2 c κs = search needs
-
-same-length-2 : tie.Need-same-length-2
-same-length-2 c = search needs
-
-returns-2 : tie.Need-returns-2
-returns-2 c =
-    let a = c .before .before .before .before .before .before .before .before .before .before .before .before .args in
-    let p = c .before .before .before .before .before .before .before .before .before .before .before .before .pre in
-    let k : c .before .before .before .before .before .before .before .before .key .result ≡ 8 * a .on .0 + a .right .0 = omega
-    (arith, c .before .before .before .before .before .before .before .before .key .ensures, p .item, p .rights) in
-    let e = c .before .before .before .best-in2 .ensures in (
-      e .0 ∙ (λ j. foundSaid (foundOf (a .grants .now) (a .loans .now) (k j) (a .who .0))),
-      e .1 ∙ (λ j. chainOf (a .grants .now) (a .loans .now) (k j) (a .who .0)),
+    let s = known (c .before .before .before) in (
+      c .said .ensures ∙ ap foundSaid (found-is s),
+      ⊎-elim (λ w. w .5 ∙ w .2 .ensures ∙ chain-no s (w .0 .taken)) (λ w. w .6 ∙ w .3 .ensures ∙ chain-yes s (w .0 .left))
+          (c .before .if1 .came),
     )
 
 pub best-spec : {M : Type 1} → statement M
 best-spec =
     tie.close
     (tie.spec
-    key-requires
-    in-use-requires
-    slice-aggregate-best-in
-    best-in-requires
+    grant-round-requires
+    rounds-of-requires
+    best-of-requires
+    clear-requires
+    write-chain-requires
+    said-requires
     same-length
-    returns
-    slice-aggregate-best-in-2
-    best-in-requires-2
-    same-length-2
-    returns-2)
+    returns)

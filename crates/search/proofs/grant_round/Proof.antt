@@ -4,7 +4,7 @@ use lib.Count.{leading-le}
 use borrow.Author.Needs.{needs}
 use native.Mathlib.Omega.{arith}
 use mathlib.Core.Path.{_≡_, refl}
-use Prim.Native.Nat.{ℕ, _+_, _-_, _≤_, _<_}
+use Prim.Native.Nat.{ℕ, _-_, _≤_, _<_}
 use lib.ListN.{length, getD, length-set}
 use Rattle.delegation.specs.Search.{height, grantRound}
 use Rattle.bits.proofs.Indexed.{tabulate-ext}
@@ -14,17 +14,13 @@ use Rattle.search.proofs.grant_round.Tie as tie
 
 -- the first p entries are made
 abbrev Inv-loop : tie.InvT-loop
-Inv-loop grants base round₀ p₀ round p =
-    (p ≤ 64) × (length round ≡ 64) × ((q : ℕ) → q < p → getD round q 0 ≡ height (getD grants (base + q) 0))
+Inv-loop grants round₀ p₀ round p = (p ≤ 64) × (length round ≡ 64) × ((q : ℕ) → q < p → getD round q 0 ≡ height (getD grants q 0))
 
 abbrev μ-loop : tie.MeasureT-loop
-μ-loop grants base round₀ p₀ round p = 64 - p
+μ-loop grants round₀ p₀ round p = 64 - p
 
 loop-holds : tie.Need-loop-holds Inv-loop μ-loop
 loop-holds c = (search needs, refl, λ q h. absurd (omega arith))
-
-add-round : tie.Need-add-round Inv-loop μ-loop
-add-round c = search needs
 
 shared-slice-read-round : tie.Need-shared-slice-read-round Inv-loop μ-loop
 shared-slice-read-round c = search needs
@@ -50,7 +46,7 @@ loop-again c =
     let l = c .before .before .loop in (
       search needs,
       simp length-set (l .inv .1),
-      fill-more (λ (q : ℕ). height (getD (a .grants .now) (a .base + q) 0)) 0 (l .round)
+      fill-more (λ (q : ℕ). height (getD (a .grants .now) q 0)) 0 (l .round)
           (l .p) _ (omega arith) refl (l .inv .2),
     )
 
@@ -67,7 +63,6 @@ grant-round-spec =
     Inv-loop
     μ-loop
     loop-holds
-    add-round
     shared-slice-read-round
     sub-round
     cast-round
