@@ -42,7 +42,7 @@ impl Counts {
     }
 
     /// Every number of a command, every depth and every length of a chain came up, and every
-    /// situation that shifts, sets of items and drops are about.
+    /// situation that shifts, sets of items, drops and the loans of a check are about.
     fn assert_broad(&self) {
         let given = [0, 3, 4, 5, 6, 7, 8, 9, 10, 12, 13, 14];
         assert!(given.iter().all(|&n| self.numbers[n] > 0), "numbers {:?}", self.numbers);
@@ -127,10 +127,10 @@ impl Run {
             let question = self.generator.question(journal);
             let (who, on, right) = question;
             let known = who < 64 && on < 64 && right < 8;
-            let best = if known { journal.best(on, right)[who as usize] } else { None };
-            self.check(question, best);
-            if known && n == 0 {
-                self.counts.situations.answer(&self.journals, question);
+            let best = known.then(|| journal.best(on, right));
+            self.check(question, best.and_then(|best| best[who as usize]));
+            if let Some(best) = best.filter(|_| n == 0) {
+                self.counts.situations.answer(&self.journals, question, best);
             }
         }
         self.images.compare(&self.expected);

@@ -86,7 +86,7 @@ pub struct Bias {
 }
 
 /// The item and right that a bias with `on_key` favours.
-const KEY: (u32, u32) = (1, 1);
+pub const KEY: (u32, u32) = (1, 1);
 
 const EVEN: Bias = Bias {
     name: "few items",

@@ -3,11 +3,8 @@
 
 use std::collections::BTreeSet;
 
-use super::{Moment, Situation};
+use super::{of_key, Best, Moment, Situation};
 use crate::model::{Command, Grant, Journal, Journals, Loan};
-
-/// For each person, what the best chain ends with.
-type Best = [Option<u32>; 64];
 
 /// A drop, and the journal before it.
 pub struct Dropped<'a> {
@@ -116,8 +113,7 @@ impl<'a> Dropped<'a> {
 fn key_of(journal: &Journal, item: u32, right: u32) -> Journal {
     let at = |person, depth| Grant { item, right, person, depth };
     let grants = journal.grants.range(at(0, 0)..=at(63, 7)).copied().collect();
-    let of_key = |loan: &&Loan| (loan.item, loan.right) == (item, right);
-    let loans = journal.loans.iter().filter(of_key).copied().collect();
+    let loans = journal.loans.iter().filter(|loan| of_key(loan, item, right)).copied().collect();
     Journal { live: BTreeSet::new(), grants, loans, shift: journal.shift }
 }
 

@@ -1,11 +1,16 @@
 //! How often a run came upon what shifts are about, loans for one shift, past loans and a shift that
-//! goes back; and upon what allowsets and drops are about.
+//! goes back; and upon what allowsets, drops and the loans of a check are about.
 
 mod allow_sets;
 mod drops;
+mod picks;
 
 use crate::model::{Command, Journal, Journals, Loan, Numbers};
 use drops::{Bereft, Dropped};
+use picks::Check;
+
+/// For each person, what the best chain ends with.
+type Best = [Option<u32>; 64];
 
 /// A command, the journals before it, and its numbers.
 struct Moment<'a> {
@@ -135,10 +140,20 @@ pub struct Situations {
     drops: [u64; drops::SITUATIONS.len()],
     withdraws: [u64; drops::WITHDRAWS.len()],
     drop_answers: [u64; drops::ANSWERS.len()],
+    picks: [u64; picks::SITUATIONS.len()],
     freed: bool,
     /// The last accepted allowset.
     allow_set: Option<Command>,
     bereft: Bereft,
+}
+
+fn of_key(loan: &Loan, item: u32, right: u32) -> bool {
+    (loan.item, loan.right) == (item, right)
+}
+
+/// What a situation of commands or of checks is called.
+fn name<F>(situation: &(&'static str, F)) -> &'static str {
+    situation.0
 }
 
 /// Adds 1 to the count of each that is one.
@@ -187,12 +202,14 @@ impl Situations {
         count(&mut self.withdraws, [equal, numbers.contains(&8)]);
     }
 
-    /// Counts the answer to a question within the limits.
-    pub fn answer(&mut self, journals: &Journals, question: (u32, u32, u32)) {
+    /// Counts the answer to a question within the limits; `best` is what the model has there.
+    pub fn answer(&mut self, journals: &Journals, question: (u32, u32, u32), best: Best) {
         count(&mut self.drop_answers, drops::owes(journals, question));
         let (journal, (who, on, right)) = (&journals.chains, question);
+        let check = Check::new(journal, question, best);
+        count(&mut self.picks, picks::SITUATIONS.iter().map(|(_, is_one)| is_one(&check)));
         let in_shift = |shift| journal.best_in(shift, on, right)[who as usize];
-        let (now, next, all) = (in_shift(journal.shift), in_shift(journal.shift + 1), in_shift(0));
+        let (now, next, all) = (best[who as usize], in_shift(journal.shift + 1), in_shift(0));
         let owes = [
             now.is_some() && next.is_none(),
             now.is_none() && all.is_some(),
@@ -204,23 +221,28 @@ impl Situations {
     pub fn add(&mut self, other: &Self) {
         let commands = self.commands.iter_mut().chain(&mut self.answers);
         let drops = self.drops.iter_mut().chain(&mut self.withdraws).chain(&mut self.drop_answers);
-        let into = commands.chain(&mut self.allow_sets).chain(drops);
+        let into = commands.chain(&mut self.allow_sets).chain(drops).chain(&mut self.picks);
         into.zip(other.counts()).for_each(|(count, more)| *count += more);
     }
 
     fn counts(&self) -> impl Iterator<Item = &u64> {
         let drops = self.drops.iter().chain(&self.withdraws).chain(&self.drop_answers);
-        self.commands.iter().chain(&self.answers).chain(&self.allow_sets).chain(drops)
+        self.commands
+            .iter()
+            .chain(&self.answers)
+            .chain(&self.allow_sets)
+            .chain(drops)
+            .chain(&self.picks)
     }
 
     /// Each situation by its name, and how often it came up.
     fn named(&self) -> impl Iterator<Item = (&'static str, u64)> + '_ {
-        let name = |situation: &Situation| situation.0;
         let commands = SITUATIONS.iter().map(name).chain(ANSWERS);
         let allow_sets = allow_sets::SITUATIONS.iter().map(name);
         let drops =
             drops::SITUATIONS.iter().map(name).chain(drops::WITHDRAWS).chain(drops::ANSWERS);
-        commands.chain(allow_sets).chain(drops).zip(self.counts().copied())
+        let picks = picks::SITUATIONS.iter().map(name);
+        commands.chain(allow_sets).chain(drops).chain(picks).zip(self.counts().copied())
     }
 
     pub fn print(&self) {
