@@ -2,9 +2,10 @@
 
 use crate::api::*;
 use crate::engine::ENGINE;
+use crate::lockstep::chains_hold;
 use crate::measure::{compare, Times};
-use crate::plain::{bits, PLAIN};
-use crate::state::{home, is_chain, written, ChainState, Pair, KEY};
+use crate::plain::{bits, PLAIN, SETTLING};
+use crate::state::{home, written, ChainState, Pair, KEY};
 use std::hint::black_box;
 
 type Step<T, S> = fn(&T, &mut S) -> u64;
@@ -168,23 +169,23 @@ fn check_step(u: &Chains, s: &mut ChainState) -> u64 {
     u64::from(found.number + 16 * found.depth + 256 * u32::from(found.persons != 0))
 }
 
-/// For every person: equal answers, and a chain that bears them out, from both.
-fn chains_hold(state: &ChainState) {
-    for who in 0..64 {
-        let q = Question { who, on: KEY.0, right: KEY.1 };
-        for unit in [&ENGINE.chains, &PLAIN.chains] {
-            let mut chain = [0; CHAIN_PERSONS];
-            let found = (unit.check)(&state.grants, &state.loans, q, &mut chain);
-            assert!(is_chain(&state.grants, &state.loans, q, &chain, found), "{q:?}: {found:?} {chain:?}");
-        }
-    }
+fn check_case((name, state): (String, ChainState)) -> ChainCase {
+    chains_hold(&state);
+    chain_case(name, 1, state, check_step)
 }
 
+/// Checks beside open-ended loans.
 fn check_cases() -> Vec<ChainCase> {
     let one = [0, 64, 256, 1024].map(|n| (format!("check, {} loans of the key", written(n)), ChainState::one_key(n)));
     let spread =
         [64, 256, 1024].map(|n| (format!("check, {} loans spread over keys", written(n)), ChainState::spread(n)));
-    one.into_iter().chain(spread).map(|(name, state)| chain_case(name, 1, state, check_step)).collect()
+    one.into_iter().chain(spread).map(check_case).collect()
+}
+
+/// Checks in shift 3 beside loans with last shifts 0 to 5, of which two in six are past.
+fn dated_cases() -> Vec<ChainCase> {
+    let name = |n| format!("check, {} loans of the key with last shifts", written(n));
+    [64, 256, 1024].map(|n| check_case((name(n), ChainState::one_key(n).dated(3)))).into()
 }
 
 pub fn chains() -> Vec<Line> {
@@ -196,9 +197,13 @@ pub fn chains() -> Vec<Line> {
 }
 
 pub fn checks() -> Vec<Line> {
-    let cases = check_cases();
-    cases.iter().for_each(|case| chains_hold(&case.state));
-    cases.into_iter().map(|case| run(case, &ENGINE.chains, &PLAIN.chains)).collect()
+    let cases = check_cases().into_iter().chain(dated_cases());
+    cases.map(|case| run(case, &ENGINE.chains, &PLAIN.chains)).collect()
+}
+
+/// The checks beside open-ended loans against plain Rust that settles each person once.
+pub fn settling_checks() -> Vec<Line> {
+    check_cases().into_iter().map(|case| run(case, &ENGINE.chains, &SETTLING)).collect()
 }
 
 /// Single commands one after another against one that does the same at once, both by the engine. Before the timing: both

@@ -2,10 +2,13 @@
 
 use crate::api::*;
 use crate::engine::ENGINE;
-use crate::plain::PLAIN;
-use crate::state::{fresh_flat, is_chain, ChainState, Pair, Seeded};
+use crate::plain::{PLAIN, SETTLING};
+use crate::state::{fewest, fresh_flat, is_chain, ChainState, Pair, Seeded, KEY};
 
 const CALLS: u32 = 20_000;
+
+/// States with loans among few persons.
+const CROWDS: u32 = 2_000;
 
 /// Create, delete, allow, withdraw, recall, lend, allow_set and drop by number; those that build come more often than
 /// those that end.
@@ -71,6 +74,55 @@ fn chain_call(unit: &Chains, s: &mut ChainState, Call { command, g, set }: Call)
     }
 }
 
+/// What the check says; the persons must be a chain that bears it out.
+fn found_in(unit: &Chains, s: &ChainState, q: Question) -> Found {
+    let mut chain = [0; CHAIN_PERSONS];
+    let found = (unit.check)(&s.grants, &s.loans, q, &mut chain);
+    let held = found.number != DONE || is_chain(&s.grants, &s.loans, q, &chain, found);
+    assert!(held, "{q:?}: {found:?} {chain:?}");
+    found
+}
+
+/// For every person: engine and plain Rust say the greatest depth and the fewest persons, and write such a chain. How
+/// many persons, for each.
+pub fn chains_hold(state: &ChainState) -> [u32; 64] {
+    std::array::from_fn(|who| {
+        let q = Question { who: who as u32, on: KEY.0, right: KEY.1 };
+        let (depth, persons) = fewest(&state.grants, &state.loans, q);
+        for unit in [&ENGINE.chains, &PLAIN.chains] {
+            assert_eq!(found_in(unit, state, q), Found { number: DONE, depth, persons }, "{q:?}");
+        }
+        persons
+    })
+}
+
+/// Whether settling answers some check of the key with more persons than the fewest; it must say the same depth.
+fn settled_longer(state: &ChainState) -> bool {
+    let longer = |who| {
+        let q = Question { who, on: KEY.0, right: KEY.1 };
+        let (depth, persons) = fewest(&state.grants, &state.loans, q);
+        let found = found_in(&SETTLING, state, q);
+        assert_eq!((found.number, found.depth), (DONE, depth), "{q:?}");
+        found.persons > persons
+    };
+    (0..64).filter(|&who| longer(who)).count() > 0
+}
+
+/// Loans among few persons, so that chains of equal depth and of every length meet.
+fn crowded() {
+    let mut seeded = Seeded::new(33);
+    let (mut longer, mut lengths) = (0, [0; CHAIN_PERSONS + 1]);
+    for _ in 0..CROWDS {
+        let state = ChainState::crowd(&mut seeded);
+        chains_hold(&state);
+        longer += u32::from(settled_longer(&state));
+        let dated = state.dated(seeded.below(8));
+        chains_hold(&dated).iter().for_each(|&persons| lengths[persons as usize] += 1);
+    }
+    assert!(longer > 0, "settling always had the fewest persons");
+    assert!(lengths.iter().all(|&count| count > 0), "chains by persons: {lengths:?}");
+}
+
 #[derive(Clone, PartialEq)]
 struct Units {
     flat: Pair,
@@ -91,17 +143,15 @@ impl Units {
         [list, row, chain_call(&api.chains, &mut self.chains, call)]
     }
 
-    /// What the checks and subject sets say; the chain is held against the state.
-    fn asked(&mut self, api: &Api, q: Question) -> (Said, Said, u32, u32, Said, Said) {
+    /// What the checks and subject sets say; the chain is held against the state, and that it has the fewest persons.
+    fn asked(&mut self, api: &Api, q: Question) -> (Said, Said, Found, Said, Said) {
         let list = (api.lists.check)(&self.flat.lists, q);
         let row = (api.rows.check)(&self.flat.rows, q);
-        let ChainState { grants, loans, chain, .. } = &mut self.chains;
-        chain.fill(0);
-        let found = (api.chains.check)(grants, loans, q, chain);
-        let held = found.number != DONE || is_chain(grants, loans, q, chain, found);
-        assert!(held, "{q:?}: {found:?} {chain:?}");
+        let found = found_in(&api.chains, &self.chains, q);
+        let best = || fewest(&self.chains.grants, &self.chains.loans, q);
+        assert!(found.number != DONE || (found.depth, found.persons) == best(), "{q:?}: {found:?}");
         let subjects = ((api.lists.subjects)(&self.flat.lists), (api.rows.subjects)(&self.flat.rows));
-        (list, row, found.number, found.depth, subjects.0, subjects.1)
+        (list, row, found, subjects.0, subjects.1)
     }
 
     /// Each image made from the other must be the one that stands.
@@ -143,4 +193,5 @@ pub fn run() {
     }
     one.converts(&ENGINE);
     one.converts(&PLAIN);
+    crowded();
 }

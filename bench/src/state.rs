@@ -1,7 +1,7 @@
 //! The states that are measured, made by commands from fresh units and a seeded generator.
 
 use crate::api::*;
-use crate::plain::{loans, PLAIN};
+use crate::plain::{bits, loans, PLAIN};
 
 /// xorshift64*: enough for inputs, and the same on every machine.
 pub struct Seeded(u64);
@@ -130,6 +130,36 @@ impl ChainState {
         ChainState::granted(63).with_loans(count, 63, |loan| loan)
     }
 
+    /// Up to 40 loans among nine persons, of the key and some of another right. In one state of two most go from a
+    /// person to the next, so that chains grow long.
+    pub fn crowd(seeded: &mut Seeded) -> ChainState {
+        let mut state = ChainState::fresh();
+        (1..=KEY.0).for_each(|on| assert_eq!((PLAIN.chains.create)(&mut state.grants, &mut state.loans, 0, on), DONE));
+        let key = |grant: Grant| Grant { on: KEY.0, right: KEY.1, ..grant };
+        let long = seeded.below(2) == 0;
+        match long {
+            true => state.allow(key(Grant { depth: DEPTH_MAX, ..seeded.grant(KEY.0) })),
+            false => (0..3).for_each(|_| state.allow(key(seeded.grant(KEY.0)))),
+        }
+        for _ in 0..4 + seeded.below(37) {
+            let (by, right) = (seeded.below(KEY.0), KEY.1 + u32::from(seeded.below(8) == 0));
+            let any = Grant { by, right, ..key(seeded.grant(KEY.0)) };
+            let next = Grant { to: (by + 1) % KEY.0, depth: DEPTH_MAX - seeded.below(2), ..any };
+            state.lend(if long && seeded.below(8) != 0 { next } else { any });
+        }
+        state
+    }
+
+    /// In that shift, the loans with last shifts 0 to 5 in turn.
+    pub fn dated(mut self, shift: u32) -> ChainState {
+        let count = loans::count(&self.loans);
+        let used = &mut self.loans[1..=count];
+        used.iter_mut().zip((0..6).cycle()).for_each(|(loan, last)| *loan |= last << 24);
+        used.sort_unstable();
+        self.loans[0] |= shift << 16;
+        self
+    }
+
     /// Loans of lenders and borrowers 1 to last, on what `place` makes of them.
     fn with_loans(mut self, count: u32, last: u32, place: fn(Grant) -> Grant) -> ChainState {
         let mut seeded = Seeded::new(13);
@@ -163,8 +193,39 @@ fn lent_on(left: u32, loan: Option<u32>) -> Option<u32> {
     Some(left.checked_sub(1)?.min(loan?))
 }
 
-/// The greatest depth of the standing loans from one person to another on the item and right.
+/// The loans on the item and right that carry, each looked at by itself.
+fn carrying(table: &[u32], q: Question) -> impl Iterator<Item = u32> + '_ {
+    let carries = |loan| loans::last(loan) == 0 || loans::last(loan) >= loans::shift(table);
+    let of_key = move |loan: &u32| loans::item(*loan) == q.on && loans::right(*loan) == q.right;
+    loans::in_use(table).iter().copied().filter(of_key).filter(move |&loan| carries(loan))
+}
+
+/// The greatest depth of the carrying loans from one person to another on the item and right.
 fn greatest_loan(table: &[u32], q: Question, from: u8, to: u8) -> Option<u32> {
-    let first = loans::code(u32::from(from), q.on, q.right, u32::from(to), 0);
-    loans::in_use(table).iter().filter(|&&loan| loan & !7 == first).map(|&loan| loan & 7).max()
+    let pair = (u32::from(from), u32::from(to));
+    let of_pair = carrying(table, q).filter(|&loan| (loans::lender(loan), loans::borrower(loan)) == pair);
+    of_pair.map(loans::depth).max()
+}
+
+/// The greatest depth of any chain to the person, and the fewest persons of one that has it; 0 and 0 where there is
+/// none. Every person and allowance that chains of just so many loans end with is followed, so none is left out for
+/// another.
+pub fn fewest(grants: &[u8], table: &[u32], q: Question) -> (u32, u32) {
+    let cells = &grants[(8 + 512 * q.on + 64 * q.right) as usize..][..64];
+    // For each person the allowances, a bit each.
+    let mut ends: [u8; 64] = cells.try_into().expect("64 bytes");
+    let mut found = (0, 0);
+    for persons in 1..=CHAIN_PERSONS as u32 {
+        if let Some(depth) = ends[q.who as usize].checked_ilog2().filter(|&depth| found.1 == 0 || depth > found.0) {
+            found = (depth, persons);
+        }
+        let mut longer = [0; 64];
+        for loan in carrying(table, q) {
+            let (lender, borrower, depth) = (loans::lender(loan), loans::borrower(loan), loans::depth(loan));
+            let left = bits(u64::from(ends[lender as usize])).filter_map(|allowance| allowance.checked_sub(1));
+            left.for_each(|left| longer[borrower as usize] |= 1 << left.min(depth as usize));
+        }
+        ends = longer;
+    }
+    found
 }

@@ -1,7 +1,7 @@
 //! The chain unit: grants with depths, loans, and the check that follows them.
 
-use super::search::Reach;
-use super::{bits, cells_in_order, in_range, live_set, loans, named, number, require, Answer, Unit};
+use super::settling::Reach;
+use super::{bits, cells_in_order, in_range, live_set, loans, named, number, require, rounds, Answer, Best, Unit};
 use crate::api::{self, *};
 
 struct Chains<'a> {
@@ -102,14 +102,20 @@ fn judge_check(grants: &[u8], table: &[u32], q: Question, room: usize) -> Answer
     in_range(&[q.who, q.on], q.right, 0)
 }
 
-fn check(grants: &[u8], table: &[u32], q: Question, chain: &mut [u8]) -> Found {
+/// A check whose chain is found by the search, which gets the grants' bytes of the item and right.
+fn check_by(
+    grants: &[u8],
+    table: &[u32],
+    q: Question,
+    chain: &mut [u8],
+    search: impl FnOnce(&[u8]) -> Option<Best>,
+) -> Found {
     if let Err(refusal) = judge_check(grants, table, q, chain.len()) {
         return Found { number: refusal, depth: 0, persons: 0 };
     }
     let first = place(0, q.on, q.right);
-    let reach = Reach::new(&grants[first..first + 64], loans::in_use(table), q.on, q.right);
-    match reach.chain(q.who as usize) {
-        Some((depth, persons, count)) => {
+    match search(&grants[first..first + 64]) {
+        Some(Best { depth, persons, count }) => {
             chain.copy_from_slice(&persons);
             Found { number: DONE, depth, persons: count as u32 }
         }
@@ -119,6 +125,18 @@ fn check(grants: &[u8], table: &[u32], q: Question, chain: &mut [u8]) -> Found {
         }
     }
 }
+
+fn check(grants: &[u8], table: &[u32], q: Question, chain: &mut [u8]) -> Found {
+    check_by(grants, table, q, chain, |of_key| rounds::best(of_key, table, q.who as usize, q.on, q.right))
+}
+
+fn check_settling(grants: &[u8], table: &[u32], q: Question, chain: &mut [u8]) -> Found {
+    check_by(grants, table, q, chain, |of_key| {
+        Reach::new(of_key, loans::in_use(table), q.on, q.right).chain(q.who as usize)
+    })
+}
+
+pub const SETTLING: api::Chains = api::Chains { check: check_settling, ..UNIT };
 
 pub const UNIT: api::Chains = api::Chains {
     fresh,

@@ -1,14 +1,23 @@
-//! The engine once more, in plain safe Rust: the same images, the same checks in the same order, the same answers, for
-//! loans that are open-ended. It is what the proved engine is measured against.
+//! The engine once more, in plain safe Rust: the same images, the same checks in the same order, the same answers. It
+//! has no command of shifts and makes loans open-ended; its check takes any. It is what the proved engine is measured
+//! against.
 
 pub mod chains;
 pub mod convert;
 pub mod lists;
 pub mod loans;
+pub mod rounds;
 pub mod rows;
-pub mod search;
+pub mod settling;
 
 use crate::api::*;
+
+/// A best chain: the depth that it ends with, its persons, the grant's first, and how many they are.
+pub struct Best {
+    pub depth: u32,
+    pub persons: [u8; CHAIN_PERSONS],
+    pub count: usize,
+}
 
 /// Done, or the number of the refusal.
 pub type Answer = Result<(), u32>;
@@ -227,3 +236,6 @@ pub const PLAIN: Api = Api {
     rows_to_lists: convert::rows_to_lists,
     chains: chains::UNIT,
 };
+
+/// The chain unit whose check settles each person once, for open-ended loans.
+pub const SETTLING: Chains = chains::SETTLING;

@@ -1,9 +1,10 @@
-//! The best chain: persons are settled from the greatest allowance down, so each loan is followed once.
-//! An allowance falls at every loan, so what a person has at its level can't be raised by a later one.
+//! A best chain of open-ended loans: persons are settled from the greatest allowance down, so each loan is followed
+//! once. An allowance falls at every loan, so what a person has at its level can't be raised by a later one. Of several
+//! best chains it need not be one with the fewest persons.
 
-use super::bits;
-use super::loans::{borrower, code, depth};
-use crate::api::NO_PERSON;
+use super::loans::{borrower, depth, of_lender};
+use super::{bits, Best};
+use crate::api::{CHAIN_PERSONS, NO_PERSON};
 
 pub struct Reach {
     /// For each person 0, or the greatest allowance of any chain and 1.
@@ -12,13 +13,6 @@ pub struct Reach {
     from: [u8; 64],
     /// For each value of `best` the persons who had it at some time.
     at: [u64; 9],
-}
-
-/// The loans of one lender on one item and right; they stand side by side in the table.
-fn loans_of(loans: &[u32], lender: u32, on: u32, right: u32) -> impl Iterator<Item = &u32> {
-    let first = code(lender, on, right, 0, 0);
-    let start = loans.partition_point(|&loan| loan < first);
-    loans[start..].iter().take_while(move |&&loan| loan < first + 512)
 }
 
 impl Reach {
@@ -40,7 +34,7 @@ impl Reach {
 
     fn lend_from(&mut self, lender: usize, loans: &[u32], on: u32, right: u32) {
         let left = self.best[lender] - 1;
-        for &loan in loans_of(loans, lender as u32, on, right) {
+        for &loan in of_lender(loans, lender as u32, on, right) {
             self.raise(borrower(loan) as usize, left.min(depth(loan) as u8 + 1), lender as u8);
         }
     }
@@ -62,18 +56,18 @@ impl Reach {
         reach
     }
 
-    /// The best chain of the person, p0 first, and its length; none where no chain exists.
-    pub fn chain(&self, who: usize) -> Option<(u32, [u8; 8], usize)> {
+    /// A best chain of the person; none where no chain exists.
+    pub fn chain(&self, who: usize) -> Option<Best> {
         let depth = u32::from(self.best[who]).checked_sub(1)?;
-        let mut chain = [NO_PERSON; 8];
-        let mut persons = 0;
+        let mut persons = [NO_PERSON; CHAIN_PERSONS];
+        let mut count = 0;
         let mut person = who as u8;
         while person != NO_PERSON {
-            chain[persons] = person;
-            persons += 1;
+            persons[count] = person;
+            count += 1;
             person = self.from[person as usize];
         }
-        chain[..persons].reverse();
-        Some((depth, chain, persons))
+        persons[..count].reverse();
+        Some(Best { depth, persons, count })
     }
 }
