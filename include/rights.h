@@ -12,7 +12,7 @@
  *
  * - Machine: x86-64 with SSE2, the System V calling convention, ELF. There is no library for another machine yet.
  * - Other code: memset, and nothing else. No heap, no thread, no operating system, no state of its own.
- * - Stack: RIGHTS_STACK_BYTES below the caller's frame, arguments included, is enough for any call. The most that was measured is 5,271
+ * - Stack: RIGHTS_STACK_BYTES below the caller's frame, arguments included, is enough for any call. The most that was measured is 5,319
  *   bytes, by rights_chains_check; no other call used over 500.
  * - Threads: checks, subjects, inspections and conversions from one image may run side by side. A call that writes an image needs it
  *   alone: no other call on that image meanwhile. Calls on different buffers never meet.
