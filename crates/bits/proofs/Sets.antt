@@ -42,6 +42,11 @@ pub either : {X : Type 0} (a b : Bool) → a || b ≡ true → (a ≡ true → X
 either true b e f g = f refl
 either false b e f g = g e
 
+-- where neither passes
+pub neither : (a b : Bool) → a || b ≡ false → (a ≡ false) × (b ≡ false)
+neither true b e = absurd (false≢true (sym e))
+neither false b e = (refl, e)
+
 -- a test that decides another: by its two values
 pub by-cases : {X : Type 0} (b : Bool) → (b ≡ true → X) → (b ≡ false → X) → X
 by-cases true f g = f refl
