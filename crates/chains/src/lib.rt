@@ -135,7 +135,7 @@ fn drop_item(grants: &mut [u8], loans: &mut [u32], on: Item)
         (on .0) ⌝ }
 {
     grants::drop_item(grants, on);
-    loans::retain(loans, Rule { without: on });
+    loans::retain(loans, Rule::Naming(on));
 }
 
 // The shift into the image.

@@ -6,8 +6,9 @@ use Prim.Native.Nat.{ℕ, _-_}
 use lib.ListN.{length, getD}
 use lib.Dec.{eqb}
 use Rattle.bits.specs.Sets.{keep}
-use Rattle.delegation.specs.Loans.{lender, loanItem, loanRight, borrower, wordNames, rising, loanWords, headerIn, used, loansImage}
+use Rattle.delegation.specs.Loans.{lender, loanItem, loanRight, borrower, wordNames, wordFrom, rising, loanWords, headerIn, used, loansImage}
 use Rattle.loans.specs.declared.Rule.{Rule}
+use Rattle.loans.specs.declared.Rule.the-variants as rule
 use Rattle.loans.specs.declared.order.Dead.{Dead}
 
 -- item i lives, by a mask of 64 bytes: 0 where it does, 255 where it does not
@@ -26,9 +27,11 @@ namesLive live w = live (lender w) && live (loanItem w) && live (borrower w)
 abbrev pub noneDead : Dead → Bool
 noneDead d = eqb (d .lender) 0 && eqb (d .item) 0 && eqb (d .borrower) 0
 
--- the loan words that a rule lets stand
+-- the loan words that a rule lets stand: those that do not name the item
 abbrev pub keepsOf : Rule → ℕ → Bool
-keepsOf rule w = not (wordNames (rule .without .0) w)
+keepsOf (rule.Naming i) w = not (wordNames (i .0) w)
+-- those that the person did not make on that item, of that right
+keepsOf (rule.From p o r) w = not (wordFrom (p .0) (o .0) (r .0) w)
 
 -- how many loans a pass by the rule ends; none where the slice is no loans image by its length
 abbrev pub endedBy : Rule → List ℕ → ℕ
