@@ -1,5 +1,5 @@
--- Document 01's handover examples E1 to E12, as one table over the journal, and document 02's shifts, allowset and drop in rows
--- of their own.
+-- Document 01's handover examples E1 to E12, as one table over the journal, and document 02's shifts, allowset, drop and what becomes of
+-- loans in rows of their own.
 use mathlib.Core.Bool.{Bool, _&&_, cond}
 use mathlib.Core.List.{List, [], _∷_, _++_, map}
 use Prim.Native.Nat.{ℕ, zero, suc, _-_, min, max}
@@ -112,7 +112,7 @@ lentFor2 = Shift 0 2 ∷ Lend 3 0 9 1 1 2 ∷ []
 
 -- 3 has the depths 0, 3 and 7 on 9, right 1
 unfoldable pub threeDepths : List Command
-threeDepths = Withdraw 0 3 9 1 ∷ Allow 0 3 9 1 0 ∷ Allow 0 3 9 1 3 ∷ Allow 0 3 9 1 7 ∷ []
+threeDepths = Allow 0 3 9 1 0 ∷ Allow 0 3 9 1 3 ∷ Allow 0 3 9 1 7 ∷ Drop 0 3 9 1 2 ∷ []
 
 -- the paper's examples, a row each, in its order
 unfoldable pub examples : List Example
@@ -124,10 +124,10 @@ examples =
     -- E4
     ∷ row [] (asks (Recall 3 4 9 1 0 0)) (number 0) passed
     ∷ row (Recall 3 4 9 1 0 0 ∷ []) (checks 4) (yes 1 ((3 ∷ 4 ∷ []) ∷ [])) no
-    -- E5
+    -- E5, as document 02 has it: 'after the new allow, 4 is no'
     ∷ row [] (asks (Withdraw 0 3 9 1)) (number 0) (number 0)
     ∷ row (Withdraw 0 3 9 1 ∷ []) (checks 5) no no
-    ∷ row (Withdraw 0 3 9 1 ∷ Allow 0 3 9 1 1 ∷ []) (checks 4) (yes 0 ((3 ∷ 4 ∷ []) ∷ [])) no
+    ∷ row (Withdraw 0 3 9 1 ∷ Allow 0 3 9 1 1 ∷ []) (checks 4) no no
     ∷ row (Withdraw 0 3 9 1 ∷ Allow 0 3 9 1 1 ∷ []) (checks 5) no no
     -- E6
     ∷ row (Lend 3 5 9 1 5 0 ∷ []) (checks 5) (yes 1 ((3 ∷ 5 ∷ []) ∷ [])) no
@@ -207,10 +207,10 @@ examples =
     -- a depth that does not stand: nothing ends
     ∷ row threeDepths (asks (Drop 0 3 9 1 5)) (number 0) passed
     ∷ row (threeDepths ++ (Drop 0 3 9 1 5 ∷ [])) (checks 3) (yes 7 ((3 ∷ []) ∷ [])) flatYes
-    -- of the only depth: the drawer is closed as by withdraw, but not for lists and rows; loans stay
+    -- of the only depth: the drawer is closed as by withdraw, but not for lists and rows
     ∷ row (Drop 0 3 9 1 2 ∷ []) (checks 3) no flatYes
     ∷ row (Drop 0 3 9 1 2 ∷ []) (checks 5) no no
-    ∷ row (Drop 0 3 9 1 2 ∷ Allow 0 3 9 1 1 ∷ []) (checks 4) (yes 0 ((3 ∷ 4 ∷ []) ∷ [])) no
+    ∷ row (Drop 0 3 9 1 2 ∷ Allow 0 3 9 1 1 ∷ []) (checks 4) no no
     -- 'drop has withdraw's refusals and 3 for the depth'
     ∷ row [] (asks (Drop 0 3 9 1 7)) (number 0) passed
     ∷ row [] (asks (Drop 7 3 7 1 8)) (number 3) passed
@@ -224,6 +224,23 @@ examples =
     -- 'withdraw is eight drops, checked once before the first': one's own edit grants too, of two depths
     ∷ row (Allow 0 0 9 0 3 ∷ []) (asks (Withdraw 0 0 9 0)) (number 0) (number 0)
     ∷ row (Allow 0 0 9 0 3 ∷ Withdraw 0 0 9 0 ∷ []) (asks (Allow 0 4 9 1 0)) (number 8) (number 8)
+    -- 'when a person's last grant on an item and right ends .., the loans that person made there end too': lent anew they carry
+    ∷ row (Withdraw 0 3 9 1 ∷ Allow 0 3 9 1 1 ∷ Lend 3 4 9 1 1 0 ∷ []) (checks 4) (yes 0 ((3 ∷ 4 ∷ []) ∷ [])) no
+    -- 'loans further down stay': 4's carries again through a grant of 4's own
+    ∷ row (Withdraw 0 3 9 1 ∷ Allow 0 4 9 1 1 ∷ []) (checks 5) (yes 0 ((4 ∷ 5 ∷ []) ∷ [])) no
+    -- only where a grant ends: 4 has none, and lent; nor by a refused withdraw, or a drop of a depth that does not stand
+    ∷ row [] (asks (Withdraw 0 4 9 1)) (number 0) (number 0)
+    ∷ row (Withdraw 0 4 9 1 ∷ []) (checks 5) (yes 0 ((3 ∷ 4 ∷ 5 ∷ []) ∷ [])) no
+    ∷ row (Withdraw 3 3 9 1 ∷ []) (checks 4) (yes 1 ((3 ∷ 4 ∷ []) ∷ [])) no
+    ∷ row (Drop 0 3 9 1 5 ∷ []) (checks 4) (yes 1 ((3 ∷ 4 ∷ []) ∷ [])) no
+    -- only where it is the last: one of two depths, then the other
+    ∷ row (Allow 0 3 9 1 5 ∷ Drop 0 3 9 1 2 ∷ []) (checks 4) (yes 1 ((3 ∷ 4 ∷ []) ∷ [])) no
+    ∷ row (Allow 0 3 9 1 5 ∷ Drop 0 3 9 1 2 ∷ Drop 0 3 9 1 5 ∷ Allow 0 3 9 1 2 ∷ []) (checks 4) no no
+    -- only there: a grant of another right
+    ∷ row (Allow 0 3 9 2 2 ∷ Withdraw 0 3 9 2 ∷ []) (checks 4) (yes 1 ((3 ∷ 4 ∷ []) ∷ [])) no
+    -- with a last shift and past it too: none is left that bars a lower shift
+    ∷ row (lentFor2 ++ (Shift 0 3 ∷ Withdraw 0 3 9 1 ∷ [])) (asks (Shift 0 1)) (number 0) passed
+    ∷ row (lentFor2 ++ (Shift 0 3 ∷ Drop 0 3 9 1 2 ∷ [])) (asks (Shift 0 1)) (number 0) passed
     ∷ []
 
 -- what the journal says after an example's commands

@@ -2,7 +2,8 @@
 use mathlib.Core.Path.{_≡_, refl, sym, ap, ap₂, _∙_}
 use mathlib.Core.Bool.{Bool, true, false, _&&_, _||_, cond, false≢true}
 use mathlib.Core.List.{List, [], _∷_, map}
-use Prim.Native.Nat.{ℕ, suc}
+use Prim.Native.Nat.{ℕ, suc, _≤_}
+use native.Mathlib.Omega.{arith}
 use borrow.Author.Tests.{eqb-true, eq-eqb}
 use lib.Dec.{eqb}
 use lib.ListN.{length}
@@ -235,6 +236,22 @@ module _ {A : Type 0} where
   unfolding any all keep add
   all-true [] = refl
   all-true (x ∷ xs) = all-true xs
+
+  pub any-fewer : (p f : A → Bool) (xs : List A) → any p (keep f xs) ≡ true → any p xs ≡ true
+  any-fewer p f xs h =
+      any-mono (λ x. f x && p x) p (λ x. true) xs (all-true xs) (λ x k e. snd (f x) (p x) e) (sym (any-keep p f xs) ∙ h)
+
+  pub any-less : (p f : A → Bool) (xs : List A) → any p xs ≡ false → any p (keep f xs) ≡ false
+  any-less p f xs h = by-cases (any p (keep f xs)) (λ t. absurd (false≢true (sym h ∙ any-fewer p f xs t))) (λ t. t)
+
+  pub length-keep : (f : A → Bool) (xs : List A) → length (keep f xs) ≤ length xs
+  unfolding keep
+  length-keep f [] = omega arith
+  length-keep f (x ∷ xs) = go (f x) (length-keep f xs)
+    where
+      go : (b : Bool) → length (keep f xs) ≤ length xs → length (cond b (x ∷ keep f xs) (keep f xs)) ≤ suc (length xs)
+      go true k = omega arith
+      go false k = omega arith
 
   pub none : (xs : List A) → any (λ x. false) xs ≡ false
   unfolding any all keep add

@@ -11,6 +11,7 @@ use loans::Rule;
 use model::Answer;
 use model::ChainChecked;
 use model::Command;
+use model::Depth;
 use model::Facts;
 use model::Item;
 use model::Right;
@@ -19,7 +20,7 @@ use model::Typed;
 use model::Verb;
 use model::judge;
 ghost use mathlib.Core.Path.{_≡_};
-ghost use mathlib.Core.Bool.{true};
+ghost use mathlib.Core.Bool.{true, not, _&&_};
 ghost use Prim.Native.Nat.{_+_, _*_, _≤_, _<_};
 ghost use lib.ListN.{length};
 ghost use Rattle.model.specs.declared.Command.the-variants.{Create, Delete, Allow, Withdraw, Lend, Recall, AllowSet, Drop};
@@ -27,14 +28,14 @@ ghost use Rattle.model.specs.declared.Command.the-variants as command;
 ghost use Rattle.model.specs.Commands.{Ranged, rawOf};
 ghost use Rattle.model.specs.Answers.{numberOf, foundSaid};
 ghost use Rattle.layouts.specs.Machine.{Judged, Ran};
-ghost use Rattle.model.specs.Journal.{loanIn};
-ghost use Rattle.layouts.specs.Layouts.{grantCells};
+ghost use Rattle.model.specs.Journal.{grant, loanIn};
+ghost use Rattle.layouts.specs.Layouts.{grantBytes, grantCells, held};
 ghost use Rattle.delegation.specs.Loans.{wordOf, loanWords, countOf, loansAt};
 ghost use Rattle.delegation.specs.Search.{foundOf, chainOf};
 ghost use Rattle.delegation.specs.Images.{images};
-ghost use Rattle.delegation.specs.ChainUnit.{chainUnit, chainGuarded, chainFacts, chainAfter, ChainChecks, ChainInspects, ChainFreshens};
+ghost use Rattle.delegation.specs.ChainUnit.{chainUnit, chainInOrder, chainGuarded, chainFacts, chainDropped, chainWithdrawn, chainAfter, ChainChecks, ChainInspects, ChainFreshens};
 ghost use Rattle.chains.specs.InShape.{InShape};
-ghost use Rattle.chains.specs.Ready.{Ready, Accepted, withoutItem};
+ghost use Rattle.chains.specs.Ready.{Ready, Accepted, Ending, withoutItem, withoutLoans};
 
 // The bytes of a chain buffer.
 const PERSONS: usize = 8;
@@ -146,6 +147,52 @@ fn set_shift(loans: &mut [u32], to: Shift)
     loans::shift::set(loans, to);
 }
 
+// Ends the loans that the person made on the item, of that right, if a last grant there has ended: had says that there was one before.
+fn end_loans(grants: &[u8], loans: &mut [u32], had: bool, to: Item, on: Item, right: Right)
+    requires { ⌜ Ending (now grants) (now loans) (to .0) (on .0) (right .0) ⌝ }
+    ensures { λ _. ⌜ now (loans .exit)
+        ≡ withoutLoans (had && not (held grantBytes (now (grants .entry)) (to .0) (on .0) (right .0))) (to .0) (on .0) (right .0)
+        (now (loans .entry)) ⌝ }
+{
+    if !had {
+        return;
+    }
+    if grants::holds(grants, to, on, right) {
+        return;
+    }
+    let theirs = Rule::From {
+        lender: to,
+        on,
+        right,
+    };
+    if !loans::ends(loans, theirs) {
+        return;
+    }
+    loans::retain(loans, theirs);
+}
+
+// One depth ends, and the person's loans there with the last.
+fn drop_grant(grants: &mut [u8], loans: &mut [u32], to: Item, on: Item, right: Right, depth: Depth)
+    requires { ⌜ Ending (now grants) (now loans) (to .0) (on .0) (right .0) × (depth .0 < 8) ⌝ }
+    ensures { λ _. ⌜ images (now (grants .exit)) (now (loans .exit)) ≡ chainDropped (images (now (grants .entry)) (now (loans .entry)))
+        (grant (to .0) (on .0) (right .0) (depth .0)) ⌝ }
+{
+    let had = grants::holds(grants, to, on, right);
+    grants::drop_grant(grants, to, on, right, depth);
+    end_loans(grants, loans, had, to, on, right);
+}
+
+// Every depth ends, and the person's loans there, if there was a depth: the eight drops as one.
+fn drop_grants(grants: &mut [u8], loans: &mut [u32], to: Item, on: Item, right: Right)
+    requires { ⌜ Ending (now grants) (now loans) (to .0) (on .0) (right .0) × (chainInOrder (images (now grants) (now loans)) ≡ true) ⌝ }
+    ensures { λ _. ⌜ images (now (grants .exit)) (now (loans .exit)) ≡ chainWithdrawn (images (now (grants .entry)) (now (loans .entry)))
+        (to .0) (on .0) (right .0) ⌝ }
+{
+    let had = grants::holds(grants, to, on, right);
+    grants::drop_grants(grants, to, on, right);
+    end_loans(grants, loans, had, to, on, right);
+}
+
 // What an accepted command does.
 fn apply(grants: &mut [u8], loans: &mut [u32], t: Typed)
     requires { ⌜ Accepted (images (now grants) (now loans)) (rawOf t) ⌝ }
@@ -157,12 +204,12 @@ fn apply(grants: &mut [u8], loans: &mut [u32], t: Typed)
         Verb::Create => grants::put_item(grants, t.by, t.on),
         Verb::Delete => drop_item(grants, loans, t.on),
         Verb::Allow => grants::put_grant(grants, t.to, t.on, t.right, t.depth),
-        Verb::Withdraw => grants::drop_grants(grants, t.to, t.on, t.right),
+        Verb::Withdraw => drop_grants(grants, loans, t.to, t.on, t.right),
         Verb::Lend => loans::insert(loans, loan_word(t)),
         Verb::Recall => loans::remove(loans, loan_word(t)),
         Verb::Shift => set_shift(loans, t.shift),
         Verb::AllowSet => grants::put_grants(grants, t.set, t.on, t.right, t.depth),
-        Verb::Drop => grants::drop_grant(grants, t.to, t.on, t.right, t.depth),
+        Verb::Drop => drop_grant(grants, loans, t.to, t.on, t.right, t.depth),
     }
 }
 

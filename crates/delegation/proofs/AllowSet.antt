@@ -22,7 +22,7 @@ use Rattle.layouts.proofs.Holding.{Holds}
 use Rattle.layouts.proofs.AllowSet.{unit-allowset}
 
 -- the loans ask of the live set only whom and what they name
-loans-order : (f g : ℕ → Bool) (t : List ℕ) → ((i : ℕ) → leb i 63 ≡ true → g i ≡ f i) → loansInOrder f t ≡ true → loansInOrder g t ≡ true
+pub loans-order : (f g : ℕ → Bool) (t : List ℕ) → ((i : ℕ) → leb i 63 ≡ true → g i ≡ f i) → loansInOrder f t ≡ true → loansInOrder g t ≡ true
 unfolding loansInOrder
 loans-order f g t e h =
     let a : all (wordGood f) (used t) ≡ true = search (fst, snd) in

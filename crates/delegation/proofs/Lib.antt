@@ -9,4 +9,6 @@ pub mod Steps
 pub mod ChainUnit
 pub mod Plain
 pub mod AllowSet
+pub mod Dropped
 pub mod Drop
+pub mod EndsLoans

@@ -1,22 +1,22 @@
 -- The loans of a journal as rising words.
 use mathlib.Core.Path.{_≡_, refl, sym, ap, _∙_, ap₂}
-use mathlib.Core.Bool.{Bool, true, false, not, _||_, cond, false≢true}
+use mathlib.Core.Bool.{Bool, true, false, not, _&&_, _||_, cond, false≢true}
 use mathlib.Core.List.{List, [], _∷_, _++_}
 use Prim.Native.Nat.{ℕ, zero, suc, _+_, _-_, _*_, _/_, _%_, _≤_, _<_}
 use native.Mathlib.Omega.{arith}
-use borrow.Author.Tests.{eqb-true, eq-eqb, ne-eqb, leb-true, le-leb, lt-leb, not-true}
+use borrow.Author.Tests.{eqb-true, eq-eqb, ne-eqb, leb-true, leb-false, le-leb, lt-leb, not-true}
 use lib.ListN.{length, getD, drop, replicate, length-append, length-replicate, take, length-drop, take-append-drop}
 use lib.Seq.{take-at, drop-at, length-take-le}
 use lib.Dec.{eqb, leb}
 use Rattle.bits.specs.Sets.{any, all, keep, add}
 use Rattle.model.specs.Commands.{mostLoans}
-use Rattle.model.specs.Journal.{Loan, loan, sameLoan, loanNames, carries}
-use Rattle.delegation.specs.Loans.{lastShift, lender, loanItem, loanRight, borrower, loanDepth, wordNames, wordOf, loanOf, rising, insert, loanWords, headerOf, headerWord, recounted, movedTo, headerIn, loansImage, loansWith, loansKept, loansAt, used, wordGood, loansInOrder, countOf, shiftIn}
+use Rattle.model.specs.Journal.{Loan, loan, sameLoan, isFrom, loanNames, carries}
+use Rattle.delegation.specs.Loans.{lastShift, lender, loanItem, loanRight, borrower, loanDepth, wordNames, wordFrom, wordOf, loanOf, rising, insert, loanWords, headerOf, headerWord, recounted, movedTo, headerIn, loansImage, loansWith, loansKept, loansAt, used, wordGood, loansInOrder, countOf, shiftIn}
 use Rattle.delegation.specs.declared.loan.Header.{Header}
-use Rattle.bits.proofs.Sets.{iff, fst, snd, both, or-left, or-right, any-cong}
+use Rattle.bits.proofs.Sets.{iff, by-cases, fst, snd, both, or-left, or-right, any-cong, all-mono, all-keep, length-keep}
 use Rattle.model.proofs.Invariant.{same-loan, loan-self}
 use Rattle.model.specs.Invariant.{rangedLoan, distinct}
-use Rattle.delegation.proofs.Rising.{any-insert, all-insert, rising-insert, insert-present, length-insert, keep-insert}
+use Rattle.delegation.proofs.Rising.{any-insert, all-insert, rising-insert, rising-keep, insert-present, length-insert, keep-insert}
 
 -- ---- a loan and its word
 loan-le : (l : Loan) → rangedLoan l ≡ true → (l .lender ≤ 63) × (l .item ≤ 63) × (l .right ≤ 7) × (l .borrower ≤ 63) × (l .depth ≤ 7)
@@ -42,6 +42,9 @@ loanOf-wordOf l h =
 
 pub word-names : (i : ℕ) (l : Loan) → rangedLoan l ≡ true → wordNames i (wordOf l) ≡ loanNames i l
 word-names i l h = let f = word-fields l h in rw (f .0, f .1, f .3)
+
+pub word-from : (p o r : ℕ) (l : Loan) → rangedLoan l ≡ true → wordFrom p o r (wordOf l) ≡ isFrom p o r l
+word-from p o r l h = let f = word-fields l h in rw (f .0, f .1, f .2)
 
 pub wordOf-lt : (l : Loan) → rangedLoan l ≡ true → wordOf l < 4294967296
 unfolding wordOf
@@ -228,3 +231,58 @@ order-image f t l h =
     let z : all (eqb 0) (drop (suc (countOf t)) t) ≡ true = search (fst, snd) in
     let low : shiftIn t ≤ 255 = leb-true (shiftIn t) 255 (search (fst, snd)) in
     (few, r, image-of t l few z, low)
+
+-- ---- some of the loans of an image in order
+module _ (f : ℕ → Bool) (t : List ℕ) (l : length t ≡ loanWords) (o : loansInOrder f t ≡ true) where
+  length-used : length (used t) ≡ countOf t
+  unfolding used
+  length-used = let k = order-image f t l o .0 in length-take-le (countOf t) (drop 1 t) (simp length-drop (omega arith))
+
+  pub few-used : length (used t) ≤ mostLoans
+  few-used = omega (arith, length-used, order-image f t l o .0)
+
+  good-used : all (wordGood f) (used t) ≡ true
+  unfolding loansInOrder
+  good-used = search (fst, snd)
+
+  module _ (p : ℕ → Bool) where
+    few-kept : length (keep p (used t)) ≤ mostLoans
+    few-kept = omega (arith, length-keep p (used t), few-used)
+
+    pub kept-long : length (loansKept p t) ≡ loanWords
+    kept-long = length-loans (headerIn t) (keep p (used t)) few-kept
+
+    pub kept-used : used (loansKept p t) ≡ keep p (used t)
+    kept-used = used-of (headerIn t) (keep p (used t)) few-kept
+
+    pub kept-shift : shiftIn (loansKept p t) ≡ shiftIn t
+    kept-shift = shift-of (headerIn t) (keep p (used t)) few-kept
+
+    pub kept-order : loansInOrder f (loansKept p t) ≡ true
+    kept-order =
+        order-loans f (headerIn t) (keep p (used t)) (order-image f t l o .3) few-kept (rising-keep p (used t) (order-image f t l o .1))
+        (all-mono _ (wordGood f) _ (all-keep (wordGood f) p (used t) good-used) (λ w h. fst (wordGood f w) (p w) h))
+
+  -- with one more, where the table has room for it
+  pub with-used : (w : ℕ) → leb mostLoans (countOf t) && not (any (eqb w) (used t)) ≡ false → used (loansWith w t) ≡ insert w (used t)
+  with-used w free = used-of (headerIn t) (insert w (used t)) (by-cases (any (eqb w) (used t)) standing new)
+    where
+      standing : any (eqb w) (used t) ≡ true → length (insert w (used t)) ≤ mostLoans
+      standing h = let e = ap length (insert-present w (used t) (order-image f t l o .1) h) in omega (arith, e, few-used)
+
+      new : any (eqb w) (used t) ≡ false → length (insert w (used t)) ≤ mostLoans
+      new h =
+          let e = length-insert w (used t) h in
+          let k : countOf t < mostLoans = leb-false mostLoans (countOf t) (room (leb mostLoans (countOf t)) (any (eqb w) (used t)) h free) in
+          omega (arith, e, length-used, k)
+        where
+          room : (x y : Bool) → y ≡ false → x && not y ≡ false → x ≡ false
+          room false y n e = refl
+          room true false n e = e
+          room true true n e = absurd (false≢true (sym n))
+
+  -- at another shift
+  pub at-used : (n : ℕ) → used (loansAt n t) ≡ used t
+  at-used n =
+      ap (λ (x : List ℕ). used (loansAt n x)) (order-image f t l o .2)
+      ∙ ap used (at-of (headerIn t) (used t) few-used n) ∙ used-of (movedTo (headerIn t) n) (used t) few-used

@@ -1,7 +1,7 @@
 -- Each command of a chain unit, case by case: what it does to the two images is what it does to the journal.
 use mathlib.Core.Path.{_≡_, refl, sym, ap, ap₂, _∙_}
-use mathlib.Core.Bool.{not}
-use mathlib.Core.List.{List, map}
+use mathlib.Core.Bool.{Bool, true, not, _&&_}
+use mathlib.Core.List.{List, [], _∷_, map}
 use Prim.Native.Nat.{ℕ, _≤_}
 use native.Mathlib.Omega.{arith}
 use lib.ListN.{length}
@@ -9,20 +9,23 @@ use lib.Dec.{eqb}
 use Rattle.model.specs.declared.Command.{Command}
 use Rattle.model.specs.declared.Command.the-variants.{Create, Delete, Allow, Withdraw, Lend, Recall, Shift, AllowSet, Drop}
 use Rattle.delegation.specs.declared.loan.Header.{Header}
-use Rattle.model.specs.Commands.{argumentsOf, membersOf, mostLoans}
-use Rattle.model.specs.Journal.{Loan, Journal, grant, loan, sameLoan, loanNames, facts, answered, apply}
-use Rattle.layouts.specs.Layouts.{grantBytes}
+use Rattle.bits.specs.Sets.{all}
+use Rattle.model.specs.Commands.{items, rightDepth, argumentsOf, membersOf, mostLoans}
+use Rattle.model.specs.Journal.{Grant, Loan, Journal, grant, loan, sameLoan, loanNames, hasGrant, facts, answered, dropped, droppedAll, ofEachDepth, apply}
+use Rattle.layouts.specs.Layouts.{grantBytes, held}
+use Rattle.layouts.specs.Layouts as image
 use Rattle.delegation.specs.Loans.{wordOf, wordNames, movedTo, loansImage}
 use Rattle.delegation.specs.Images.{Images, images}
-use Rattle.delegation.specs.ChainUnit.{chainAfter}
+use Rattle.delegation.specs.ChainUnit.{chainDropped, chainDroppedAll, chainWithdrawn, chainAfter}
 use Rattle.bits.proofs.Sets.{fst, snd, both}
 use Rattle.model.proofs.Invariant.{accepted, loans-ranged}
 use Rattle.model.proofs.AllowSet.{loans-granted, shift-granted}
-use Rattle.model.specs.Invariant.{rangedLoan, LoanInv, Kept}
+use Rattle.model.specs.Invariant.{ranged, rangedLoan, LoanInv, Kept}
 use Rattle.layouts.specs.Laws.{imageOf}
-use Rattle.layouts.proofs.Layouts.{bytes-laws, created-of, deleted-of, allowed-of, allowed-set-of, same-image}
-use Rattle.layouts.proofs.Drops.{withdrawn-of, dropped-of}
-use Rattle.delegation.proofs.Loans.{word-names, word-same, sorted, keep-sorted, sorted-add, length-sorted, kept-of, with-of, at-of}
+use Rattle.layouts.proofs.Layouts.{bytes-laws, held-of, created-of, deleted-of, allowed-of, allowed-set-of, same-image}
+use Rattle.layouts.proofs.Drops.{dropped-of}
+use Rattle.model.proofs.Drop.{ended-inv, ended-loans, eight-ranged}
+use Rattle.delegation.proofs.Loans.{word-names, word-from, word-same, sorted, keep-sorted, sorted-add, length-sorted, kept-of, with-of, at-of}
 
 -- ---- the chain unit
 abbrev pub grantsOf : Journal → List ℕ
@@ -45,6 +48,33 @@ few j v = length-sorted (j .loans) (loans-ranged j v) (v .loans-distinct)
 pub few-sorted : (j : Journal) → LoanInv j → length (sorted (j .loans)) ≤ mostLoans
 few-sorted j v = omega (arith, few j v, v .loans-few)
 
+-- one drop, and several
+chain-dropped : (j : Journal) → Kept j → (g : Grant) → ranged g ≡ true → chainDropped (imagesOf j) g ≡ imagesOf (dropped j g)
+chain-dropped j v g rg =
+    let p : ℕ = g .person in
+    let o : ℕ = g .item in
+    let r : ℕ = g .right in
+    let w : items p o && rightDepth r 0 ≡ true = search (fst, snd, both) in
+    let e : image.dropped grantBytes (grantsOf j) g ≡ grantsOf (dropped j g) = dropped-of j (v .inv) 0 p o r (g .depth) rg in
+    let had : held grantBytes (grantsOf j) p o r ≡ hasGrant j p o r = held-of grantBytes bytes-laws j (v .inv) p o r w in
+    let has : held grantBytes (image.dropped grantBytes (grantsOf j) g) p o r ≡ hasGrant (dropped j g) p o r
+    = ap (λ (x : List ℕ). held grantBytes x p o r) e
+    ∙ held-of grantBytes bytes-laws (dropped j g) (ended-inv j (g ∷ []) (v .inv)) p o r w in
+    ap₂ images e
+    (kept-of (headerFor j) (sorted (j .loans)) (few-sorted j (v .loan-inv)) _
+    ∙ ap (loansImage (headerFor j))
+    (keep-sorted _ _ rangedLoan (j .loans) (loans-ranged j (v .loan-inv))
+    (λ l h. ap₂ (λ (x y : Bool). not (x && y)) (ap₂ (λ (x y : Bool). x && not y) had has) (word-from p o r l h))))
+
+chain-dropped-all : (gs : List Grant) (j : Journal) → Kept j → all ranged gs ≡ true
+    → chainDroppedAll (imagesOf j) gs ≡ imagesOf (droppedAll j gs)
+unfolding all
+chain-dropped-all [] j v h = refl
+chain-dropped-all (g ∷ gs) j v h =
+    ap (λ (s : Images). chainDroppedAll s gs) (chain-dropped j v g (fst (ranged g) (all ranged gs) h))
+    ∙ chain-dropped-all gs (dropped j g)
+    (record { inv = ended-inv j (g ∷ []) (v .inv); loan-inv = ended-loans j (g ∷ []) (v .loan-inv) }) (snd (ranged g) (all ranged gs) h)
+
 pub chain-after : (j : Journal) → Kept j → (c : Command) → answered j c ≡ 0 → chainAfter (imagesOf j) (argumentsOf c) ≡ imagesOf (apply j c)
 chain-after j v (Create by on) e = ap (λ g. images g (loansOf j (j .loans))) (created-of grantBytes bytes-laws j (v .inv) by on)
 chain-after j v (Delete by on) e =
@@ -57,11 +87,11 @@ chain-after j v (Allow by to on right depth) e =
     ap (λ g. images g (loansOf j (j .loans))) (allowed-of grantBytes bytes-laws j (v .inv) by to on right depth)
 chain-after j v (Withdraw by to on right) e =
     let k = accepted (facts j (argumentsOf (Withdraw by to on right))) (argumentsOf (Withdraw by to on right)) e .fits in
-    ap (λ g. images g (loansOf j (j .loans)))
-    (withdrawn-of grantBytes bytes-laws j (v .inv) by to on right (search (fst, snd, both)))
+    unfold chainWithdrawn in
+    (chain-dropped-all (ofEachDepth to on right) j v (eight-ranged to on right (search (fst, snd, both))))
 chain-after j v (Drop by to on right depth) e =
     let k = accepted (facts j (argumentsOf (Drop by to on right depth))) (argumentsOf (Drop by to on right depth)) e .fits in
-    ap (λ g. images g (loansOf j (j .loans))) (dropped-of j (v .inv) by to on right depth (search (fst, snd, both)))
+    chain-dropped j v (grant to on right depth) (search (fst, snd, both))
 chain-after j v (Lend by to on right depth last) e =
     let a = argumentsOf (Lend by to on right depth last) in
     ap₂ images (same-image grantBytes bytes-laws j (apply j (Lend by to on right depth last)) refl refl)

@@ -1,8 +1,8 @@
 -- The chain unit: its nine commands, and its check.
 use mathlib.Core.Path.{_≡_}
 use mathlib.Core.Bool.{Bool, true, not, _&&_, cond}
-use mathlib.Core.List.{List, []}
-use Prim.Native.Nat.{ℕ, _+_, _*_}
+use mathlib.Core.List.{List, [], _∷_}
+use Prim.Native.Nat.{ℕ, _+_, _*_, _≤_}
 use lib.ListN.{length}
 use lib.Dec.{eqb, leb, ltb}
 use Rattle.model.specs.declared.Arguments.{Arguments}
@@ -15,9 +15,9 @@ use Rattle.bits.specs.Sets.{any, all}
 use Rattle.layouts.specs.Machine.{Machine, guardedBy}
 use Rattle.model.specs.Commands.{membersOf, mostLoans}
 use Rattle.model.specs.Answers.{Found, asked, Numbered, chainCheckedOf, nothing, _when_else_}
-use Rattle.model.specs.Journal.{Grant, grant, carries, loanIn}
-use Rattle.layouts.specs.Layouts.{grantBytes, grantCells, liveIn, held, inOrder, created, deleted, allowed, allowedSet, dropped, withdrawn, freshImage}
-use Rattle.delegation.specs.Loans.{wordOf, wordNames, wordDated, loanWords, countOf, shiftIn, used, loansImage, loansWith, loansKept, loansAt, freshHeader, loansInOrder}
+use Rattle.model.specs.Journal.{Grant, Loan, grant, ofEachDepth, carries, loanIn}
+use Rattle.layouts.specs.Layouts.{grantBytes, grantCells, liveIn, held, inOrder, created, deleted, allowed, allowedSet, dropped, freshImage}
+use Rattle.delegation.specs.Loans.{wordOf, wordNames, wordFrom, wordDated, loanWords, countOf, shiftIn, used, loansImage, loansWith, loansKept, loansAt, freshHeader, loansInOrder}
 use Rattle.delegation.specs.Images.{Images, images, standingIn}
 use Rattle.delegation.specs.Search.{foundOf, chainOf}
 
@@ -41,6 +41,10 @@ chainGuard s n = chainGuarded s true n
 abbrev pub chainStands : Images → Grant → Bool
 chainStands s g = standingIn (s .grants) g
 
+-- the loans that stand in it
+abbrev pub chainLent : Images → Loan → Bool
+chainLent s l = any (eqb (wordOf l)) (used (s .loans))
+
 -- what the table asks; back: 'the new shift is below the present one and such a loan stands'; past: 'last is set and below the present
 -- shift'; full: '1,024 loans stand and this is not one of them'
 abbrev pub chainFacts : Images → Arguments → Facts
@@ -55,16 +59,37 @@ chainFacts s a = record {
   full = leb mostLoans (countOf (s .loans)) && not (any (eqb (wordOf (loanIn a))) (used (s .loans)));
 }
 
+-- 'a person's last grant on an item and right ends': p had one on o, right r, in grants image gs, and has none in hs
+abbrev pub lastEndsIn : List ℕ → List ℕ → ℕ → ℕ → ℕ → Bool
+lastEndsIn gs hs p o r = held grantBytes gs p o r && not (held grantBytes hs p o r)
+
+-- both images after one drop: 'ends one grant', and 'when a person's last grant on an item and right ends by withdraw or drop, the loans
+-- that person made there end too; loans further down stay'
+abbrev pub chainDropped : Images → Grant → Images
+chainDropped s g =
+    images (dropped grantBytes (s .grants) g)
+    (loansKept (λ w. not (lastEndsIn (s .grants) (dropped grantBytes (s .grants) g) (g .person) (g .item) (g .right)
+    && wordFrom (g .person) (g .item) (g .right) w)) (s .loans))
+
+-- the same of several grants, one after the other
+abbrev pub chainDroppedAll : Images → List Grant → Images
+chainDroppedAll s [] = s
+chainDroppedAll s (g ∷ gs) = chainDroppedAll (chainDropped s g) gs
+
+-- 'withdraw is eight drops .. done as one'. What they leave together is `withdrawn-chain`
+unfoldable pub chainWithdrawn : Images → ℕ → ℕ → ℕ → Images
+chainWithdrawn s p o r = chainDroppedAll s (ofEachDepth p o r)
+
 -- both images after an accepted command: what it does to one may ask the other
 abbrev pub chainDone : Images → Arguments → Verb → Images
 chainDone s a verb.Create = images (created grantBytes (s .grants) (a .by) (a .on)) (s .loans)
 chainDone s a verb.Delete = images (deleted grantBytes (s .grants) (a .on)) (loansKept (λ w. not (wordNames (a .on) w)) (s .loans))
 chainDone s a verb.Allow = images (allowed grantBytes (s .grants) (grant (a .to) (a .on) (a .right) (a .depth))) (s .loans)
-chainDone s a verb.Withdraw = images (withdrawn grantBytes (s .grants) (a .to) (a .on) (a .right)) (s .loans)
+chainDone s a verb.Withdraw = chainWithdrawn s (a .to) (a .on) (a .right)
 chainDone s a verb.Lend = images (s .grants) (loansWith (wordOf (loanIn a)) (s .loans))
 chainDone s a verb.Recall = images (s .grants) (loansKept (λ w. not (eqb (wordOf (loanIn a)) w)) (s .loans))
 chainDone s a verb.Shift = images (s .grants) (loansAt (a .shift) (s .loans))
-chainDone s a verb.Drop = images (dropped grantBytes (s .grants) (grant (a .to) (a .on) (a .right) (a .depth))) (s .loans)
+chainDone s a verb.Drop = chainDropped s (grant (a .to) (a .on) (a .right) (a .depth))
 chainDone s a verb.AllowSet = images (allowedSet grantBytes (s .grants) (a .set) (a .on) (a .right) (a .depth)) (s .loans)
 
 -- by the verb of its arguments
@@ -100,6 +125,11 @@ abbrev pub ChainChecks : Images → List ℕ → ℕ → ℕ → ℕ → ChainCh
 ChainChecks s buffer p o r a b x =
     (a ≡ chainCheckedOf (chainCheckNumber s buffer p o r) (chainFound s buffer p o r)) × (b ≡ chainBuffer s buffer p o r)
     × (x ≡ chainLeft s buffer p o r)
+
+-- from images s to images x nobody goes from no to yes, and nobody's depth rises: whatever is asked, with whatever chain buffer
+abbrev pub NobodyGains : Images → Images → Type 0
+NobodyGains s x = (buffer : List ℕ) (p o r : ℕ) → chainFound x buffer p o r .yes ≡ true
+    → (chainFound s buffer p o r .yes ≡ true) × (chainFound x buffer p o r .depth ≤ chainFound s buffer p o r .depth)
 
 -- the images of a fresh unit: the fresh grants, and no loan
 unfoldable pub chainFresh : Images

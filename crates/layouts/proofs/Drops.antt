@@ -16,7 +16,7 @@ use Rattle.model.specs.Drop.{SameGrants}
 use Rattle.model.specs.Invariant.{ranged, sound, Inv}
 use Rattle.layouts.specs.Layouts.{Layout, grantBytes, liveIn, grantBit, build, held, inOrder, dropped, droppedAll, withdrawn}
 use Rattle.layouts.specs.Laws.{Laws, Whole, imageOf}
-use Rattle.bits.proofs.Sets.{by-cases, fst, snd, both, or-left, or-right, any-cong, any-kept, any-map, any-same, any-order}
+use Rattle.bits.proofs.Sets.{by-cases, fst, snd, both, or-left, or-right, any-cong, any-mono, any-and, any-kept, any-map, any-same, any-order}
 use Rattle.bits.proofs.Cells.{length-image}
 use Rattle.bits.proofs.Indexed.{below-intro, below-elim}
 use Rattle.model.proofs.Commands.{depth-in, small}
@@ -131,6 +131,14 @@ module _ (L : Layout) (W : Laws L) where
           ∙ any-same (λ d. eqb (L .place g) (L .place (grant p o r d))) eqb eqb-true d depths (depth-in d u) t)))
           (λ t. t)
 
+  -- and nobody holds what was not held
+  pub held-fewer : (s : List ℕ) (g : Grant) (p o r : ℕ) → items p o && rightDepth r 0 ≡ true → held L (dropped L s g) p o r ≡ true
+      → held L s p o r ≡ true
+  held-fewer s g p o r w =
+      any-mono _ _ (λ d. leb d 7) depths small
+      (λ d u t. fst (grantBit L s (L .place (grant p o r d))) _
+      (sym (bits-dropped s g _ (W .below (grant p o r d) (search (fst, snd, both)))) ∙ t))
+
 -- ---- where every place is of a grant
 module _ (L : Layout) (H : Whole L) where
   -- the eight places of a withdraw
@@ -150,6 +158,18 @@ module _ (L : Layout) (H : Whole L) where
           (λ d v. eqb-sym (L .place (grant p o r d)) k ∙ ap (λ (n : ℕ). eqb n (L .place (grant p o r d))) (sym z))
           ∙ place-to L (H .laws) p o r w (H .grant-at k) rg
           ∙ rw (sym (H .laws .person-of _ rg) ∙ ap (L .person) z, sym (H .laws .item-of _ rg) ∙ ap (L .item) z, sym (H .laws .right-of _ rg) ∙ ap (L .right) z)
+
+  -- what is held after it: all but what p had on o, right r
+  pub held-withdrawn : (s : List ℕ) (p o r : ℕ) → items p o && rightDepth r 0 ≡ true → (q i k : ℕ) → items q i && rightDepth k 0 ≡ true
+      → held L (withdrawn L s p o r) q i k ≡ held L s q i k && not (eqb q p && eqb i o && eqb k r)
+  held-withdrawn s p o r w q i k v =
+      ap (λ (x : List ℕ). held L x q i k) (withdrawn-places s p o r w)
+      ∙ any-cong _ _ (λ d. leb d 7) depths small
+      (λ d u. let g = grant q i k d in
+      let rg : ranged g ≡ true = search (fst, snd, both) in
+      bit-at-build L (H .laws) (liveIn L s) _ (L .place g) (H .laws .below g rg)
+      ∙ rw (H .laws .person-of g rg, H .laws .item-of g rg, H .laws .right-of g rg))
+      ∙ any-and _ (not (eqb q p && eqb i o && eqb k r)) depths
 
   -- fewer grants and the same live set: in order still
   pub order-dropped : (s : List ℕ) (g : Grant) → inOrder L s ≡ true → inOrder L (dropped L s g) ≡ true

@@ -70,12 +70,16 @@ module _ (L : Layout) (W : Laws L) where
   unfolding imageOf build
   length-of j = length-image (L .width) (L .cells) _
 
-  pub cells-of : (j : Journal) (i : ℕ) → getD (imageOf L j) i 0 < 2 ^ L .width
-  unfolding imageOf build
-  cells-of j i =
+  pub cells-build : (f g : ℕ → Bool) (i : ℕ) → getD (build L f g) i 0 < 2 ^ L .width
+  unfolding build
+  cells-build f g i =
       by-cases (ltb i (L .cells)) (λ t. image-lt (L .width) (W .wide) (L .cells) _ i (ltb-true i (L .cells) t))
-      (λ t. let past : length (imageOf L j) ≤ i = rw (length-of j) (ltb-false i (L .cells) t) in
-      rw (List·getD-eq-default (imageOf L j) 0 past) (pow-pos (L .width)))
+      (λ t. let past : length (build L f g) ≤ i = rw (length-image (L .width) (L .cells) (λ k. cond (ltb k 64) (f k) (g (k - 64)))) (ltb-false i (L .cells) t) in
+      rw (List·getD-eq-default (build L f g) 0 past) (pow-pos (L .width)))
+
+  pub cells-of : (j : Journal) (i : ℕ) → getD (imageOf L j) i 0 < 2 ^ L .width
+  unfolding imageOf
+  cells-of j i = cells-build (lives j) (placed L j) i
 
   -- equal places are of grants that differ in depth at most
   pub place-to : (p o r : ℕ) → items p o && rightDepth r 0 ≡ true → (g : Grant) → ranged g ≡ true

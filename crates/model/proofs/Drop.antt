@@ -1,5 +1,6 @@
--- What drop and withdraw promise of the journal. Drops one after another keep the grants that none of them names (`dropped-is`), so their
--- order does not show and eight of them, one of each depth, are withdraw. A drop asks what withdraw asks, and it takes nothing away
+-- What drop and withdraw promise of the journal. Drops one after another keep the grants that none of them names, and the loans whose lender
+-- still has a grant of their item and right, or had none (`dropped-is`), so their order does not show and eight of them, one of each
+-- depth, are withdraw. A drop asks what withdraw asks, and it takes nothing away
 -- that another needs unless it is an edit grant of by's (`still`).
 use mathlib.Core.Path.{_≡_, refl, sym, ap, _∙_, subst}
 use mathlib.Core.Bool.{Bool, true, false, not, _&&_, _||_, cond, false≢true, and-true, or-false}
@@ -8,50 +9,107 @@ use mathlib.Core.Logic.{_↔_}
 use Prim.Native.Nat.{ℕ, _≤_}
 use borrow.Author.Tests.{eqb-true, ne-eqb, leb-true, le-leb}
 use lib.Dec.{eqb, leb}
-use Rattle.bits.specs.Sets.{any, keep}
+use Rattle.bits.specs.Sets.{any, all, keep}
 use Rattle.model.specs.declared.Command.{Command}
 use Rattle.model.specs.declared.Command.the-variants.{Withdraw, Drop}
 use Rattle.model.specs.declared.Facts.{Facts}
 use Rattle.model.specs.Commands.{depths, items, rightDepth, argumentsOf, fits}
 use Rattle.model.specs.Answers.{answer}
-use Rattle.model.specs.Journal.{Grant, Journal, grant, sameGrant, isTo, lives, hasGrant, standing, facts, answered, dropped, droppedAll, ofEachDepth, apply, step}
+use Rattle.model.specs.Journal.{Grant, Loan, Journal, grant, sameGrant, isTo, isFrom, lives, standing, facts, answered, lessGrant, lastEnds, dropped, droppedAll, ofEachDepth, apply, step}
 use Rattle.model.specs.AllowSet.{Accepts, one, finally}
 use Rattle.model.specs.Drop.{GreatestDepth, Dropping, dropOf, SameGrants, grantsIn, Drops, Withdraws, DropsCommute}
-use Rattle.model.specs.Invariant.{ranged, sound, Inv}
-use Rattle.bits.proofs.Sets.{iff, by-cases, fst, snd, both, or-left, find, all-mono, all-keep, all-true, all-in, any-kept, any-map, any-same, any-order, keep-cong, keep-all, keep-keep, eqb-self}
+use Rattle.model.specs.Invariant.{ranged, sound, Inv, soundLoan, LoanInv}
+use Rattle.bits.proofs.Sets.{iff, by-cases, fst, snd, both, or-left, find, all-mono, all-keep, all-true, all-in, any-kept, any-fewer, any-less, any-map, any-same, any-order, keep-cong, keep-all, keep-keep, eqb-self}
 use Rattle.model.proofs.Commands.{depth-in, small}
 use Rattle.model.proofs.OneByOne.{Singles, one-by-one}
-use Rattle.model.proofs.Invariant.{same-grant, grant-self, eqb-sym, accepted}
+use Rattle.model.proofs.Invariant.{same-grant, grant-self, eqb-sym, accepted, keep-loans}
+use Rattle.model.proofs.Ending as ending
 
 -- ---- drops, one after another
 -- a grant is among these
 abbrev pub among : List Grant → Grant → Bool
 among gs h = any (λ g. sameGrant g h) gs
 
--- the journal without the grants that are among these
-abbrev pub without : Journal → List Grant → Journal
-without j gs = record { live = j .live; grants = keep (λ h. not (among gs h)) (j .grants); loans = j .loans; shift = j .shift }
+-- the journal with these of its grants: the loans whose lender had one of their item and right and has none now have ended
+abbrev pub withGrants : Journal → List Grant → Journal
+withGrants j hs = record {
+  live = j .live;
+  grants = hs;
+  loans = keep (λ l. not (lastEnds (j .grants) hs (l .lender) (l .item) (l .right))) (j .loans);
+  shift = j .shift;
+}
 
-pub dropped-is : (gs : List Grant) (j : Journal) → droppedAll j gs ≡ without j gs
+abbrev without : Journal → List Grant → Journal
+without j gs = withGrants j (keep (λ h. not (among gs h)) (j .grants))
+
+-- what p has on o, right r, among some grants
+abbrev heldIn : List Grant → ℕ → ℕ → ℕ → Bool
+heldIn gs p o r = any (isTo p o r) gs
+
+-- a grant of another person, item or right takes nothing from what p holds
+pub held-less : (g : Grant) (p o r : ℕ) → isTo p o r g ≡ false → (gs : List Grant) → heldIn (lessGrant gs g) p o r ≡ heldIn gs p o r
+held-less g p o r n gs =
+    any-kept (isTo p o r) (λ x. not (sameGrant g x)) (λ x. true) true gs (all-true gs)
+    (λ x k e. by-cases (sameGrant g x) (λ t. absurd (false≢true (sym n ∙ ap (isTo p o r) (same-grant g x t) ∙ e))) (λ t. ap not t))
+    ∙ and-true (heldIn gs p o r)
+
+-- the loans that drops end, one after another (Ending)
+module _ where
+  others : (gs : List Grant) (g : Grant) → true ≡ true → (l : Loan) → isFrom (g .person) (g .item) (g .right) l ≡ false
+      → heldIn (lessGrant gs g) (l .lender) (l .item) (l .right) ≡ heldIn gs (l .lender) (l .item) (l .right)
+  others gs g k l n =
+      held-less g (l .lender) (l .item) (l .right)
+      (rw (eqb-sym (g .person) (l .lender), eqb-sym (g .item) (l .item), eqb-sym (g .right) (l .right)) n) gs
+
+  fewer : (gs : List Grant) (g : Grant) → true ≡ true → (l : Loan) → heldIn (lessGrant gs g) (l .lender) (l .item) (l .right) ≡ true
+      → heldIn gs (l .lender) (l .item) (l .right) ≡ true
+  fewer gs g k l h = any-fewer (isTo (l .lender) (l .item) (l .right)) (λ x. not (sameGrant g x)) gs h
+
+  abbrev lessAll : List Grant → List Grant → List Grant
+  lessAll =
+      ending.lessAll heldIn (λ (l : Loan). l .lender) (λ (l : Loan). l .item) (λ (l : Loan). l .right) lessGrant (λ g. true) fewer others
+
+  abbrev loansLeft : List Grant → List Grant → List Loan → List Loan
+  loansLeft =
+      ending.left heldIn (λ (l : Loan). l .lender) (λ (l : Loan). l .item) (λ (l : Loan). l .right) lessGrant (λ g. true) fewer others
+
+  loans-left : (gs hs : List Grant) (ls : List Loan)
+      → loansLeft gs hs ls ≡ keep (λ l. not (lastEnds gs (lessAll gs hs) (l .lender) (l .item) (l .right))) ls
+  loans-left gs hs ls =
+      ending.left-is heldIn (λ (l : Loan). l .lender) (λ (l : Loan). l .item) (λ (l : Loan). l .right) lessGrant (λ g. true) fewer others
+      hs gs ls (all-true hs)
+
+  -- the grants and the loans, each by their own drops
+  each-dropped : (gs : List Grant) (j : Journal) → droppedAll j gs
+      ≡ record { live = j .live; grants = lessAll (j .grants) gs; loans = loansLeft (j .grants) gs (j .loans); shift = j .shift }
+  each-dropped [] j = refl
+  each-dropped (g ∷ gs) j = each-dropped gs (dropped j g)
+
+all-less : (gs hs : List Grant) → lessAll hs gs ≡ keep (λ h. not (among gs h)) hs
 unfolding any
-dropped-is [] j =
-    sym (ap (λ (xs : List Grant). record { live = j .live; grants = xs; loans = j .loans; shift = j .shift })
-    (keep-all (λ h. true) (j .grants) (all-true (j .grants))))
-dropped-is (g ∷ gs) j =
-    dropped-is gs (dropped j g)
-    ∙ ap (λ (xs : List Grant). record { live = j .live; grants = xs; loans = j .loans; shift = j .shift })
-    (keep-keep (λ h. not (among gs h)) (λ h. not (sameGrant g h)) (j .grants)
-    ∙ keep-cong _ _ (λ h. true) (j .grants) (all-true (j .grants)) (λ h k. joined (sameGrant g h) (among gs h)))
+all-less [] hs = sym (keep-all (λ h. true) hs (all-true hs))
+all-less (g ∷ gs) hs =
+    all-less gs (lessGrant hs g)
+    ∙ keep-keep (λ h. not (among gs h)) (λ h. not (sameGrant g h)) hs
+    ∙ keep-cong _ _ (λ h. true) hs (all-true hs) (λ h k. joined (sameGrant g h) (among gs h))
   where
     joined : (x y : Bool) → not x && not y ≡ not (x || y)
     joined true y = refl
     joined false y = refl
 
+-- what is left is told by the grants that are
+pub dropped-is : (gs : List Grant) (j : Journal) → droppedAll j gs ≡ without j gs
+dropped-is gs j =
+    each-dropped gs j
+    ∙ ap (λ (ls : List Loan). record { live = j .live; grants = lessAll (j .grants) gs; loans = ls; shift = j .shift })
+    (loans-left (j .grants) gs (j .loans))
+    ∙ ap (withGrants j) (all-less gs (j .grants))
+
 -- the order of the grants does not show
 pub order-free : (gs hs : List Grant) → SameGrants gs hs → (j : Journal) → droppedAll j gs ≡ droppedAll j hs
 order-free gs hs s j =
     dropped-is gs j
-    ∙ ap (λ (xs : List Grant). record { live = j .live; grants = xs; loans = j .loans; shift = j .shift })
+    ∙ ap (withGrants j)
     (keep-cong _ _ (λ h. true) (j .grants) (all-true (j .grants))
     (λ h k. ap not (any-order sameGrant same-grant grant-self (λ g. sameGrant g h) gs hs s)))
     ∙ sym (dropped-is hs j)
@@ -67,6 +125,23 @@ ended-inv j gs v =
           (λ g h. fst (sound (lives j) g) (not (among gs g)) h);
     })
 
+-- and of its loans
+pub ended-loans : (j : Journal) (gs : List Grant) → LoanInv j → LoanInv (droppedAll j gs)
+ended-loans j gs v =
+    subst LoanInv (sym (dropped-is gs j))
+    (let f : Loan → Bool = λ l. not (lastEnds (j .grants) (without j gs .grants) (l .lender) (l .item) (l .right)) in
+    let k = keep-loans j f v in
+    record {
+      loans-sound = all-mono _ (soundLoan (lives j)) _ (k .0) (λ l h. fst (soundLoan (lives j) l) (f l) h);
+      loans-distinct = k .1;
+      loans-few = k .2;
+      shift-in = v .shift-in;
+    })
+
+-- no loan comes
+pub none-dropped : (p : Loan → Bool) (gs : List Grant) (j : Journal) → any p (j .loans) ≡ false → any p (droppedAll j gs .loans) ≡ false
+none-dropped p gs j h = ap (λ (i : Journal). any p (i .loans)) (dropped-is gs j) ∙ any-less p _ (j .loans) h
+
 -- ---- withdraw
 -- a grant within the limits is of some depth
 pub each-depth : (p o r : ℕ) (h : Grant) → leb (h .depth) 7 ≡ true → among (ofEachDepth p o r) h ≡ isTo p o r h
@@ -80,6 +155,18 @@ each-depth p o r h k =
     let b : eqb (h .item) o ≡ true = search (fst, snd) in
     let c : eqb (h .right) r ≡ true = search (fst, snd) in
     both (both (both (eqb-sym p (h .person) ∙ a) (eqb-sym o (h .item) ∙ b)) (eqb-sym r (h .right) ∙ c)) (eqb-self (h .depth))))
+
+-- the eight grants are within the limits
+pub eight-ranged : (p o r : ℕ) → items p o && rightDepth r 0 ≡ true → all ranged (ofEachDepth p o r) ≡ true
+unfolding all
+eight-ranged p o r w = go depths small
+  where
+    go : (ds : List ℕ) → all (λ d. leb d 7) ds ≡ true → all ranged (map (λ d. grant p o r d) ds) ≡ true
+    go [] h = refl
+    go (d ∷ ds) h =
+        let k : leb d 7 ≡ true = fst (leb d 7) (all (λ d. leb d 7) ds) h in
+        let q : ranged (grant p o r d) ≡ true = search (fst, snd, both) in
+        both q (go ds (snd (leb d 7) (all (λ d. leb d 7) ds) h))
 
 -- 'every depth granted to that person there ends', and no other grant
 pub withdraw-grants : (j : Journal) → Inv j → (by to on right : ℕ)
@@ -148,7 +235,7 @@ module _ {S : Type 0} (answer : S → Command → ℕ) (next : S → Command →
       drops-leave ds (next s (dropOf d)) r ∙ ap (λ t. less t (grantsIn ds)) (drop s d e) ∙ sym (cons s (d .ended) (grantsIn ds))
 
 -- ---- of the journal
-stepped : (j : Journal) (c : Command) → answered j c ≡ 0 → step j c ≡ apply j c
+pub stepped : (j : Journal) (c : Command) → answered j c ≡ 0 → step j c ≡ apply j c
 stepped j c e = rw e
 
 journal-leaves : (ds : List Dropping) (j : Journal) → Accepts answered step j (map dropOf ds)
@@ -196,7 +283,7 @@ module _ (j : Journal) (by to on right : ℕ) where
     greatest = λ e. greatest-left (standing j) _ to on right depth (within-of e .0) (ends-of e);
     closes =
         λ e only. stepped j (Drop by to on right depth) e ∙ dropped-is (grant to on right depth ∷ []) j
-        ∙ ap (λ (xs : List Grant). record { live = j .live; grants = xs; loans = j .loans; shift = j .shift })
+        ∙ ap (withGrants j)
         (keep-cong _ _ (standing j) (j .grants) (all-in sameGrant grant-self (j .grants))
         (λ x s. ap not (only-depth depth (within-of e .1) only x s)))
         ∙ sym (dropped-is (ofEachDepth to on right) j)
@@ -214,13 +301,6 @@ module _ (j : Journal) (by to on right : ℕ) where
           → standing (step j (Drop by to on right depth)) g ≡ standing j g && not (sameGrant (grant to on right depth) g)
       ends-of e g r = ap (λ (i : Journal). standing i g) (stepped j (Drop by to on right depth) e) ∙ standing-dropped (grant to on right depth) g
 
-  -- a grant of another person, item or right takes nothing from what p holds
-  held-dropped : (g : Grant) (p o r : ℕ) → isTo p o r g ≡ false → (i : Journal) → hasGrant (dropped i g) p o r ≡ hasGrant i p o r
-  held-dropped g p o r n i =
-      any-kept (isTo p o r) (λ x. not (sameGrant g x)) (λ x. true) true (i .grants) (all-true (i .grants))
-      (λ x k e. by-cases (sameGrant g x) (λ t. absurd (false≢true (sym n ∙ ap (isTo p o r) (same-grant g x t) ∙ e))) (λ t. ap not t))
-      ∙ and-true (hasGrant i p o r)
-
   -- drops that leave by's edit grants ask what withdraw asks, over and over
   journal-singles : eqb by to && eqb right 0 ≡ false
       → Singles answered step (λ d. Drop by to on right d) (λ i. answered i (Withdraw by to on right) ≡ 0) (λ i d. leb d 7)
@@ -228,7 +308,7 @@ module _ (j : Journal) (by to on right : ℕ) where
   journal-singles n = record {
     done = λ i d e h. number-of i d (leb-true d 7 h) ∙ e;
     leaves = λ i d e. stepped i (Drop by to on right d) e;
-    still = λ i d e h. rw (held-dropped (grant to on right d) by on 0 (not-own by to on right d n) i) e;
+    still = λ i d e h. rw (held-less (grant to on right d) by on 0 (not-own by to on right d n) (i .grants)) e;
     others = λ i d e h k q. q;
     nobody = λ i. refl;
     more = λ i d ds. refl;

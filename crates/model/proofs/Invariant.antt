@@ -10,7 +10,7 @@ use Rattle.bits.specs.Sets.{any, all, keep, add}
 use Rattle.model.specs.Commands.{items, rightDepth, fits, isEmpty}
 use Rattle.model.specs.Answers.{answer, asked, knows}
 use Rattle.model.specs.Journal.{Grant, Loan, Journal, grant, loan, sameGrant, sameLoan, isTo, lives, fresh, apply, hasGrant}
-use Rattle.bits.proofs.Sets.{iff, fst, snd, both, all-mono, any-kept, all-keep, any-add, all-true, by-cases, find, eqb-self}
+use Rattle.bits.proofs.Sets.{iff, fst, snd, both, all-mono, any-kept, all-keep, any-add, any-less, all-true, by-cases, find, length-keep, eqb-self}
 use Rattle.model.specs.declared.Command.the-variants.{Create, Delete}
 use Rattle.model.specs.declared.Arguments.{Arguments}
 use Rattle.model.specs.declared.Facts.{Facts}
@@ -151,17 +151,6 @@ distinct-add l ls d = go (any (sameLoan l) ls) refl
     go true e = d
     go false e = both (ap not e) d
 
-pub any-less : (p f : Loan → Bool) (ls : List Loan) → any p ls ≡ false → any p (keep f ls) ≡ false
-unfolding any keep
-any-less p f [] h = refl
-any-less p f (l ∷ ls) h = go (f l) (p l) refl h (any-less p f ls)
-  where
-    go : (b c : Bool) → p l ≡ c → c || any p ls ≡ false → (any p ls ≡ false → any p (keep f ls) ≡ false)
-        → any p (cond b (l ∷ keep f ls) (keep f ls)) ≡ false
-    go b true e h k = absurd (false≢true (sym h))
-    go true false e h k = rw e (k h)
-    go false false e h k = k h
-
 distinct-keep : (f : Loan → Bool) (ls : List Loan) → distinct ls ≡ true → distinct (keep f ls) ≡ true
 unfolding keep distinct
 distinct-keep f [] d = refl
@@ -170,15 +159,6 @@ distinct-keep f (l ∷ ls) d = go (f l) (distinct-keep f ls (snd (not (any (same
     go : (b : Bool) → distinct (keep f ls) ≡ true → distinct (cond b (l ∷ keep f ls) (keep f ls)) ≡ true
     go true k = both (ap not (any-less (sameLoan l) f ls (not-true _ (fst (not (any (sameLoan l) ls)) (distinct ls) d)))) k
     go false k = k
-
-length-keep : (f : Loan → Bool) (ls : List Loan) → length (keep f ls) ≤ length ls
-unfolding keep
-length-keep f [] = omega arith
-length-keep f (l ∷ ls) = go (f l) (length-keep f ls)
-  where
-    go : (b : Bool) → length (keep f ls) ≤ length ls → length (cond b (l ∷ keep f ls) (keep f ls)) ≤ suc (length ls)
-    go true k = omega arith
-    go false k = omega arith
 
 pub keep-loans : (j : Journal) (f : Loan → Bool) → LoanInv j
     → (all (λ l. soundLoan (lives j) l && f l) (keep f (j .loans)) ≡ true) × (distinct (keep f (j .loans)) ≡ true)

@@ -12,10 +12,11 @@ use Rattle.bits.specs.Sets.{any, all}
 use Rattle.model.specs.declared.Command.{Command}
 use Rattle.model.specs.declared.Command.the-variants.{Create, Delete, Allow, Withdraw, Lend, Recall, Shift, AllowSet, Drop}
 use Rattle.model.specs.Commands.{argumentsOf, membersOf}
-use Rattle.model.specs.Journal.{Loan, Journal, grant, loan, sameLoan, loanNames, carries, isDated, standingLoan, facts, answered, fresh, apply, step, run, Throughout, isPlain}
-use Rattle.bits.proofs.Sets.{by-cases, fst, snd, or-right, any-same, any-add}
+use Rattle.model.specs.Journal.{Loan, Journal, grant, ofEachDepth, loan, sameLoan, loanNames, carries, isDated, standingLoan, facts, answered, fresh, apply, step, run, Throughout, isPlain}
+use Rattle.bits.proofs.Sets.{by-cases, fst, snd, or-right, any-same, any-add, any-less}
 use Rattle.model.proofs.AllowSet.{loans-granted, shift-granted}
-use Rattle.model.proofs.Invariant.{accepted, any-less, neither, same-loan}
+use Rattle.model.proofs.Drop.{none-dropped}
+use Rattle.model.proofs.Invariant.{accepted, neither, same-loan}
 
 -- ---- which loans carry
 -- an open-ended loan carries at every shift
@@ -93,8 +94,10 @@ plain-apply j (Create by on) h u = record { shift = u .shift; loans = u .loans }
 plain-apply j (Delete by on) h u =
     record { shift = u .shift; loans = any-less isDated (λ l. not (loanNames on l)) (j .loans) (u .loans) }
 plain-apply j (Allow by to on right depth) h u = record { shift = u .shift; loans = u .loans }
-plain-apply j (Withdraw by to on right) h u = record { shift = u .shift; loans = u .loans }
-plain-apply j (Drop by to on right depth) h u = record { shift = u .shift; loans = u .loans }
+plain-apply j (Withdraw by to on right) h u =
+    record { shift = u .shift; loans = none-dropped isDated (ofEachDepth to on right) j (u .loans) }
+plain-apply j (Drop by to on right depth) h u =
+    record { shift = u .shift; loans = none-dropped isDated (grant to on right depth ∷ []) j (u .loans) }
 plain-apply j (Lend by to on right depth last) h u =
     record {
       shift = u .shift;

@@ -11,12 +11,12 @@ use Rattle.model.specs.declared.Command.the-variants.{Create, Delete, Al
 use Rattle.bits.specs.Sets.{any, all, keep, add}
 use Rattle.model.specs.Commands.{items, rightDepth, argumentsOf, fits, membersOf}
 use Rattle.model.specs.Answers.{flat}
-use Rattle.model.specs.Journal.{Grant, Journal, grant, grantedAll, droppedAll, ofEachDepth, loan, sameGrant, sameLoan, names, loanNames, lives, facts, answered, fresh, apply, step, run, isDrop}
+use Rattle.model.specs.Journal.{Grant, Journal, grant, grantedAll, lessGrant, droppedAll, ofEachDepth, loan, sameGrant, sameLoan, names, loanNames, lives, facts, answered, fresh, apply, step, run, isDrop}
 use Rattle.bits.proofs.Sets.{fst, snd, both, or-left, or-right, all-mono, all-keep, all-add}
 use Rattle.model.proofs.Answers.{LoanFree}
 use Rattle.model.proofs.Commands.{ranged-command}
 use Rattle.model.proofs.AllowSet.{alive, ready, live-granted, loans-granted, shift-granted, all-granted}
-use Rattle.model.proofs.Drop.{ended-inv}
+use Rattle.model.proofs.Drop.{ended-inv, ended-loans}
 use Rattle.model.proofs.Invariant.{eqb-sym, neither, accepted, named-live, lives-create, lives-delete, inv-fresh, grow, loans-fresh, keep-loans, few-add, grow-loan, distinct-add}
 use Rattle.model.specs.Invariant.{ranged, sound, Inv, rangedLoan, soundLoan, LoanInv, Kept, Alike}
 
@@ -142,10 +142,8 @@ loans-apply j (AllowSet by set on right depth) v e =
       loans-few = rw (loans-granted gs j) (v .loans-few);
       shift-in = rw (shift-granted gs j) (v .shift-in);
     }
-loans-apply j (Withdraw by to on right) v e =
-    record { loans-sound = v .loans-sound; loans-distinct = v .loans-distinct; loans-few = v .loans-few; shift-in = v .shift-in }
-loans-apply j (Drop by to on right depth) v e =
-    record { loans-sound = v .loans-sound; loans-distinct = v .loans-distinct; loans-few = v .loans-few; shift-in = v .shift-in }
+loans-apply j (Withdraw by to on right) v e = ended-loans j (ofEachDepth to on right) v
+loans-apply j (Drop by to on right depth) v e = ended-loans j (grant to on right depth ∷ []) v
 loans-apply j (Lend by to on right depth last) v e =
     let k = accepted (facts j (argumentsOf (Lend by to on right depth last))) (argumentsOf (Lend by to on right depth last)) e in
     let l = named-live (lives j on) (lives j to) _ (k .named) in
@@ -214,7 +212,7 @@ alike-granted (g ∷ gs) a = alike-granted gs (record { live = a .live; grants =
 -- the same grants taken from both
 alike-dropped : (gs : List Grant) {j k : Journal} → Alike j k → Alike (droppedAll j gs) (droppedAll k gs)
 alike-dropped [] a = a
-alike-dropped (g ∷ gs) a = alike-dropped gs (record { live = a .live; grants = ap (keep (λ h. not (sameGrant g h))) (a .grants) })
+alike-dropped (g ∷ gs) a = alike-dropped gs (record { live = a .live; grants = ap (λ gs. lessGrant gs g) (a .grants) })
 
 -- what lists and rows lack leaves both alone, but for drop
 pub alike-apply : {j k : Journal} → Alike j k → (c : Command) → isDrop c ≡ false → Alike (apply j c) (cond (flat c) (apply k c) k)

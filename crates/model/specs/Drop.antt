@@ -1,6 +1,6 @@
 -- What drop and withdraw promise, of the journal and of the chain unit: 'withdraw is split: `drop` (by, to, on, right, depth) ends one
 -- grant, and withdraw is eight drops, checked once before the first and done as one. drop has withdraw's refusals and 3 for the depth.'
--- The theorems are `journal-drop` and `chain-drop`.
+-- The theorems are `journal-drop` and `chain-drop`. What becomes of loans is in Ending.
 use mathlib.Core.Path.{_≡_}
 use mathlib.Core.Bool.{Bool, true, false, not, _&&_}
 use mathlib.Core.List.{List, map}

@@ -65,6 +65,10 @@ isTo p o r g = eqb (g .person) p && eqb (g .item) o && eqb (g .right) r
 abbrev pub names : ℕ → Grant → Bool
 names i g = eqb (g .person) i || eqb (g .item) i
 
+-- a loan that p made on o, right r
+abbrev pub isFrom : ℕ → ℕ → ℕ → Loan → Bool
+isFrom p o r l = eqb (l .lender) p && eqb (l .item) o && eqb (l .right) r
+
 -- a loan names i as lender, item or borrower
 abbrev pub loanNames : ℕ → Loan → Bool
 loanNames i l = eqb (l .lender) i || eqb (l .item) i || eqb (l .borrower) i
@@ -157,9 +161,26 @@ abbrev pub grantedAll : Journal → List Grant → Journal
 grantedAll j [] = j
 grantedAll j (g ∷ gs) = grantedAll (granted j g) gs
 
--- 'ends one grant'; one that does not stand ends nothing
+-- some grants without g
+abbrev pub lessGrant : List Grant → Grant → List Grant
+lessGrant gs g = keep (λ h. not (sameGrant g h)) gs
+
+-- 'a person's last grant on an item and right ends': p had one on o, right r, among grants gs, and has none among hs
+abbrev pub lastEnds : List Grant → List Grant → ℕ → ℕ → ℕ → Bool
+lastEnds gs hs p o r = any (isTo p o r) gs && not (any (isTo p o r) hs)
+
+-- 'ends one grant'; one that does not stand ends nothing. 'When a person's last grant on an item and right ends by withdraw or drop, the
+-- loans that person made there end too; loans further down stay'
 abbrev pub dropped : Journal → Grant → Journal
-dropped j g = record { live = j .live; grants = keep (λ h. not (sameGrant g h)) (j .grants); loans = j .loans; shift = j .shift }
+dropped j g =
+    record {
+      live = j .live;
+      grants = lessGrant (j .grants) g;
+      loans =
+          keep (λ l. not (lastEnds (j .grants) (lessGrant (j .grants) g) (g .person) (g .item) (g .right)
+          && isFrom (g .person) (g .item) (g .right) l)) (j .loans);
+      shift = j .shift;
+    }
 
 -- the same of several grants, one after the other
 abbrev pub droppedAll : Journal → List Grant → Journal
@@ -186,7 +207,8 @@ apply j (Delete by on) =
 -- 'that grant stands. An equal one already standing changes nothing'
 apply j (Allow by to on right depth) = granted j (grant to on right depth)
 -- 'withdraw is eight drops, checked once before the first and done as one': what they leave is document 01's 'every depth granted to that
--- person there ends .. Loans stay' (`withdraw-grants`)
+-- person there ends' (`withdraw-grants`), and the loans end with the drop that ends the last grant, whatever their order
+-- (`journal-withdraw`)
 apply j (Withdraw by to on right) = droppedAll j (ofEachDepth to on right)
 -- 'that loan stands, also where the lender holds nothing yet'
 apply j (Lend by to on right depth last) =
@@ -232,6 +254,18 @@ isPlain (Recall by to on right depth last) = eqb last 0
 isPlain (Shift by now) = false
 isPlain (AllowSet by set on right depth) = true
 isPlain (Drop by to on right depth) = true
+
+-- a lend by p on o, right r
+abbrev pub lendsFrom : ℕ → ℕ → ℕ → Command → Bool
+lendsFrom p o r (Create by on) = false
+lendsFrom p o r (Delete by on) = false
+lendsFrom p o r (Allow by to on right depth) = false
+lendsFrom p o r (Withdraw by to on right) = false
+lendsFrom p o r (Lend by to on right depth last) = isFrom p o r (loan by on right to depth last)
+lendsFrom p o r (Recall by to on right depth last) = false
+lendsFrom p o r (Shift by now) = false
+lendsFrom p o r (AllowSet by set on right depth) = false
+lendsFrom p o r (Drop by to on right depth) = false
 
 -- a drop: 'Lists and rows pass it over and are held to the journal only on lists without drop'
 abbrev pub isDrop : Command → Bool

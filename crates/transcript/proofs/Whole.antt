@@ -40,7 +40,7 @@ withdrawn-journal : Journal
 withdrawn-journal = record {
   live = 9 ∷ 4 ∷ 3 ∷ 0 ∷ [];
   grants = grant 0 9 0 0 ∷ grant 0 4 0 0 ∷ grant 0 3 0 0 ∷ grant 0 0 0 0 ∷ [];
-  loans = loan 3 9 1 4 0 0 ∷ [];
+  loans = [];
   shift = 0;
 }
 

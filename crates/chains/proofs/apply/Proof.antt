@@ -1,7 +1,8 @@
 -- In each arm both images are as the verb, which the match has told, leaves them (`arm`). A recall finds the
--- loans image in order (`loans-ordered`), and so does a loan that the table let through, with room in it, since row 10 does not hold
--- (`room`).
+-- loans image in order (`loans-ordered`), so do a withdraw and a drop (`ending`), and so does a loan that the table let through, with room
+-- in it, since row 10 does not hold (`room`).
 use borrow.Author.Needs.{needs}
+use native.Mathlib.Omega.{arith}
 use mathlib.Core.Path.{ap, _∙_}
 use mathlib.Core.Bool.{not}
 use lib.Dec.{eqb}
@@ -9,6 +10,7 @@ use Rattle.model.specs.Commands.{rawOf}
 use Rattle.delegation.specs.Loans.{loansWith, loansKept}
 use Rattle.delegation.specs.Images.{images}
 use Rattle.chains.proofs.Arms.{arm, loans-ordered, room}
+use Rattle.chains.proofs.Ending.{ending}
 use Rattle.chains.proofs.apply.Statement.{statement}
 use Rattle.chains.proofs.apply.Tie as tie
 
@@ -34,7 +36,9 @@ enum-told-4 : tie.Need-enum-told-4
 enum-told-4 c = search needs
 
 drop-grants-requires : tie.Need-drop-grants-requires
-drop-grants-requires c κs = search needs
+drop-grants-requires c κs =
+    let start = c .before .before .before .before .before .before in
+    (ending (start .args .grants .now) (start .args .loans .now) (rawOf (start .args .t)) (start .pre), start .pre .ready .ordered)
 
 enum-told-5 : tie.Need-enum-told-5
 enum-told-5 c = search needs
@@ -75,7 +79,11 @@ enum-told-9 : tie.Need-enum-told-9
 enum-told-9 c = search needs
 
 drop-grant-requires : tie.Need-drop-grant-requires
-drop-grant-requires c κs = search needs
+drop-grant-requires c κs =
+    let start = c .before .before .before .before .before .before in (
+      ending (start .args .grants .now) (start .args .loans .now) (rawOf (start .args .t)) (start .pre),
+      omega (arith, start .pre .ready .ranged .depth),
+    )
 
 same-length : tie.Need-same-length
 same-length c = search needs
@@ -113,15 +121,18 @@ returns-3 c =
 same-length-5 : tie.Need-same-length-5
 same-length-5 c = search needs
 
-returns-4 : tie.Need-returns-4
-returns-4 c =
-    let start = c .before .before .before .before .before .before .before .before in
-    arm (images (start .args .grants .now) (start .args .loans .now)) _ (rawOf (start .args .t)) _
-    (c .before .before .before .before .enum-told4 .given .1)
-    (ap (λ g. images g (start .args .loans .now)) (c .before .before .drop-grants .ensures))
-
 same-length-6 : tie.Need-same-length-6
 same-length-6 c = search needs
+
+returns-4 : tie.Need-returns-4
+returns-4 c =
+    let start = c .before .before .before .before .before .before .before .before .before .before .before in
+    arm (images (start .args .grants .now) (start .args .loans .now)) _ (rawOf (start .args .t)) _
+    (c .before .before .before .before .before .before .before .enum-told4 .given .1)
+    (c .before .before .before .before .drop-grants .ensures)
+
+same-length-7 : tie.Need-same-length-7
+same-length-7 c = search needs
 
 returns-5 : tie.Need-returns-5
 returns-5 c =
@@ -131,8 +142,8 @@ returns-5 c =
     (ap (images (start .args .grants .now))
     (c .before .before .insert .ensures ∙ ap (λ w. loansWith w (start .args .loans .now)) (c .before .before .before .loan-word .ensures)))
 
-same-length-7 : tie.Need-same-length-7
-same-length-7 c = search needs
+same-length-8 : tie.Need-same-length-8
+same-length-8 c = search needs
 
 returns-6 : tie.Need-returns-6
 returns-6 c =
@@ -143,8 +154,8 @@ returns-6 c =
     (c .before .before .remove .ensures
     ∙ ap (λ w. loansKept (λ x. not (eqb w x)) (start .args .loans .now)) (c .before .before .before .loan-word2 .ensures)))
 
-same-length-8 : tie.Need-same-length-8
-same-length-8 c = search needs
+same-length-9 : tie.Need-same-length-9
+same-length-9 c = search needs
 
 returns-7 : tie.Need-returns-7
 returns-7 c =
@@ -153,8 +164,8 @@ returns-7 c =
     (c .before .before .before .before .enum-told7 .given .1)
     (ap (images (start .args .grants .now)) (c .before .before .set-shift .ensures))
 
-same-length-9 : tie.Need-same-length-9
-same-length-9 c = search needs
+same-length-10 : tie.Need-same-length-10
+same-length-10 c = search needs
 
 returns-8 : tie.Need-returns-8
 returns-8 c =
@@ -163,15 +174,18 @@ returns-8 c =
     (c .before .before .before .before .enum-told8 .given .1)
     (ap (λ g. images g (start .args .loans .now)) (c .before .before .put-grants .ensures))
 
-same-length-10 : tie.Need-same-length-10
-same-length-10 c = search needs
+same-length-11 : tie.Need-same-length-11
+same-length-11 c = search needs
+
+same-length-12 : tie.Need-same-length-12
+same-length-12 c = search needs
 
 returns-9 : tie.Need-returns-9
 returns-9 c =
-    let start = c .before .before .before .before .before .before .before .before in
+    let start = c .before .before .before .before .before .before .before .before .before .before .before in
     arm (images (start .args .grants .now) (start .args .loans .now)) _ (rawOf (start .args .t)) _
-    (c .before .before .before .before .enum-told9 .given .1)
-    (ap (λ g. images g (start .args .loans .now)) (c .before .before .drop-grant .ensures))
+    (c .before .before .before .before .before .before .before .enum-told9 .given .1)
+    (c .before .before .before .before .drop-grant .ensures)
 
 pub apply-spec : {M : Type 1} → statement M
 apply-spec =
@@ -205,14 +219,16 @@ apply-spec =
     same-length-4
     returns-3
     same-length-5
-    returns-4
     same-length-6
-    returns-5
+    returns-4
     same-length-7
-    returns-6
+    returns-5
     same-length-8
-    returns-7
+    returns-6
     same-length-9
-    returns-8
+    returns-7
     same-length-10
+    returns-8
+    same-length-11
+    same-length-12
     returns-9)
