@@ -66,7 +66,7 @@ extern "C" {
 #endif
 
 /* Which engine this header is of: 10000 * major + 100 * minor + patch, and the date of the images' layout as digits. */
-#define RIGHTS_VERSION 10500
+#define RIGHTS_VERSION 10600
 #define RIGHTS_LAYOUT_DATE 20261116
 
 /* Enough stack below the caller's frame for any call. */

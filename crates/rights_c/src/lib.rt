@@ -12,7 +12,7 @@ mod rows_unit;
 
 #[no_mangle]
 pub extern "C" fn rights_version() -> u32
-    ensures { λ r. ⌜ r ≡ 10500 ⌝ }
+    ensures { λ r. ⌜ r ≡ 10600 ⌝ }
 {
     Version::number()
 }
