@@ -1,7 +1,8 @@
 /*
  * A nurse's question at the drawer. The nurse has a grant of depth 2 and lends it to a colleague, who lends it on to a relief carer,
- * both with no last shift. May the relief carer open the drawer, and through whom? And after the nurse's grant is withdrawn? Last, a
- * command that is refused: the nurse may not edit the drawer.
+ * both with no last shift. May the relief carer open the drawer, and through whom? And after the nurse's grant is withdrawn? Given
+ * back, the right starts clean: the nurse's loan has ended, and the colleague may not. Last, a command that is refused: the nurse may
+ * not edit the drawer.
  *
  * Each call is written on a line: the command with its arguments, then the number that it returned and its text. A check that is not
  * refused has yes or no there; yes comes with the depth and the persons of the chain.
@@ -107,6 +108,8 @@ int main(void)
     check(RELIEF_CARER, DRAWER, OPEN);
     withdraw(ROOT, NURSE, DRAWER, OPEN);
     check(RELIEF_CARER, DRAWER, OPEN);
+    allow(ROOT, NURSE, DRAWER, OPEN, 2);
+    check(COLLEAGUE, DRAWER, OPEN);
     withdraw(NURSE, COLLEAGUE, DRAWER, OPEN);
     return 0;
 }
