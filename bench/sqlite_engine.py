@@ -51,6 +51,7 @@ LIMITS = {"by": 63, "to": 63, "on": 63, "who": 63, "right": 7, "depth": 7, "last
 NUMBER = "0|[1-9][0-9]{0,9}"
 SET = "[0-9a-f]{16}"
 LOANS_MAX = 1024
+THESE_GRANTS = "FROM grants WHERE item = :on AND right = :right AND person = :to"
 THIS_LOAN = "item = :on AND right = :right AND lender = :by AND borrower = :to AND depth = :depth"
 
 # What an accepted command does.
@@ -66,7 +67,10 @@ CHANGES = {
     ),
     "allow": ("INSERT OR IGNORE INTO grants VALUES (:on, :right, :to, :depth)",),
     "allowset": ("INSERT OR IGNORE INTO grants SELECT :on, :right, item, :depth FROM live WHERE :set >> item & 1",),
-    "withdraw": ("DELETE FROM grants WHERE item = :on AND right = :right AND person = :to",),
+    "withdraw": (
+        f"DELETE FROM loans WHERE item = :on AND right = :right AND lender = :to AND EXISTS (SELECT 1 {THESE_GRANTS})",
+        f"DELETE {THESE_GRANTS}",
+    ),
     "lend": ("INSERT OR IGNORE INTO loans VALUES (:on, :right, :by, :to, :depth)",),
     "recall": (f"DELETE FROM loans WHERE {THIS_LOAN}",),
 }

@@ -5,7 +5,7 @@ use crate::engine::ENGINE;
 use crate::lockstep::chains_hold;
 use crate::measure::{compare, Times};
 use crate::plain::{bits, PLAIN, SETTLING};
-use crate::state::{home, written, ChainState, Pair, KEY};
+use crate::state::{home, written, ChainState, Lending, Pair, KEY, LENDER};
 use std::hint::black_box;
 
 type Step<T, S> = fn(&T, &mut S) -> u64;
@@ -161,6 +161,50 @@ fn loan_cases() -> Vec<ChainCase> {
     ]
 }
 
+/// Depth 2 of the lender's grants of the key; withdraw takes every depth.
+const ENDED: Grant = Grant { by: 0, to: LENDER, on: KEY.0, right: KEY.1, depth: 2 };
+
+type LendingStep = Step<Chains, Lending>;
+
+fn withdraw_step(u: &Chains, s: &mut Lending) -> u64 {
+    s.put_back();
+    u64::from((u.withdraw)(&mut s.unit.grants, &mut s.unit.loans, ENDED))
+}
+
+fn drop_step(u: &Chains, s: &mut Lending) -> u64 {
+    s.put_back();
+    u64::from((u.drop)(&mut s.unit.grants, &mut s.unit.loans, ENDED))
+}
+
+/// Withdraws and drops beside 1,024 loans, some of them the lender's on the key.
+fn ending_cases() -> Vec<Case<Chains, Lending>> {
+    const ONE: u8 = 1 << ENDED.depth;
+    let case = |name: &str, unit, depths, step: LendingStep| Case {
+        name: name.to_string(),
+        calls: 1,
+        state: Lending::new(unit, depths),
+        step,
+    };
+    let of = |own, name: &str, depths, step| {
+        case(&format!("{name}, {} of 1,024 loans", written(own)), ChainState::lent_by(own), depths, step)
+    };
+    vec![
+        case("no call: grants and loans put back", ChainState::lent_by(512), ONE, |_, s| {
+            s.put_back();
+            0
+        }),
+        of(0, "withdraw", ONE, withdraw_step),
+        of(1, "withdraw", ONE, withdraw_step),
+        of(512, "withdraw", ONE, withdraw_step),
+        of(1024, "withdraw", ONE, withdraw_step),
+        case("withdraw, 512 of 1,024 loans, last shifts", ChainState::lent_by(512).dated(3), ONE, withdraw_step),
+        of(512, "withdraw where no grant stands", 0, withdraw_step),
+        of(512, "drop that leaves a depth", ONE | 1, drop_step),
+        of(0, "drop of the last grant", ONE, drop_step),
+        of(512, "drop of the last grant", ONE, drop_step),
+    ]
+}
+
 /// A check of the key for the next of the 64 persons.
 fn check_step(u: &Chains, s: &mut ChainState) -> u64 {
     let q = Question { who: s.who, on: KEY.0, right: KEY.1 };
@@ -194,6 +238,10 @@ pub fn chains() -> Vec<Line> {
     });
     let cases = [vec![fresh], grant_cases(0), grant_cases(1024), loan_cases()].into_iter().flatten();
     cases.map(|case| run(case, &ENGINE.chains, &PLAIN.chains)).collect()
+}
+
+pub fn endings() -> Vec<Line> {
+    ending_cases().into_iter().map(|case| run(case, &ENGINE.chains, &PLAIN.chains)).collect()
 }
 
 pub fn checks() -> Vec<Line> {

@@ -2,7 +2,7 @@
 
 use crate::api::*;
 use crate::engine::ENGINE;
-use crate::plain::{PLAIN, SETTLING};
+use crate::plain::{loans, PLAIN, SETTLING};
 use crate::state::{fewest, fresh_flat, is_chain, ChainState, Pair, Seeded, KEY};
 
 const CALLS: u32 = 20_000;
@@ -26,6 +26,22 @@ fn arguments(seeded: &mut Seeded) -> Grant {
     let mut item = || [0, number(seeded, 64), seeded.below(8), seeded.below(8)][seeded.below(4) as usize];
     let (by, to, on) = (item(), item(), item());
     Grant { by, to, on, right: number(seeded, 8), depth: number(seeded, 8) }
+}
+
+/// A withdraw or a drop by the root, of the lender, item and right of a loan that stands.
+fn aimed(seeded: &mut Seeded, table: &[u32]) -> Grant {
+    let loans = loans::in_use(table);
+    let loan = loans[seeded.below(loans.len() as u32) as usize];
+    let (to, on, right) = (loans::lender(loan), loans::item(loan), loans::right(loan));
+    Grant { by: 0, to, on, right, depth: seeded.below(8) }
+}
+
+/// The arguments of a call; every other withdraw and drop is aimed at a loan.
+fn arguments_of(seeded: &mut Seeded, command: u32, table: &[u32]) -> Grant {
+    match command {
+        3 | 7 if loans::count(table) > 0 && seeded.below(2) == 0 => aimed(seeded, table),
+        _ => arguments(seeded),
+    }
 }
 
 /// Some of the items that live; now and then any item, or none.
@@ -108,17 +124,36 @@ fn settled_longer(state: &ChainState) -> bool {
     (0..64).filter(|&who| longer(who)).count() > 0
 }
 
+/// A withdraw or drop aimed at a loan, of a person with no grant to three there: engine and plain Rust must leave the
+/// same. How many loans it ended.
+fn ended_alike(state: &ChainState, seeded: &mut Seeded) -> usize {
+    let g = aimed(seeded, &state.loans);
+    let mut one = state.clone();
+    for _ in 0..seeded.below(4) {
+        assert_eq!((PLAIN.chains.allow)(&mut one.grants, &mut one.loans, Grant { depth: seeded.below(8), ..g }), DONE);
+    }
+    let mut other = one.clone();
+    let call = Call { command: [3, 7][seeded.below(2) as usize], g, set: 0 };
+    let numbers = [(&ENGINE, &mut one), (&PLAIN, &mut other)].map(|(api, s)| chain_call(&api.chains, s, call));
+    assert_eq!(numbers, [DONE, DONE], "{call:?}");
+    assert!(one == other, "the images differ after {call:?}");
+    loans::count(&state.loans) - loans::count(&one.loans)
+}
+
 /// Loans among few persons, so that chains of equal depth and of every length meet.
 fn crowded() {
     let mut seeded = Seeded::new(33);
     let (mut longer, mut lengths) = (0, [0; CHAIN_PERSONS + 1]);
+    let mut ended = [0; 4];
     for _ in 0..CROWDS {
         let state = ChainState::crowd(&mut seeded);
         chains_hold(&state);
         longer += u32::from(settled_longer(&state));
         let dated = state.dated(seeded.below(8));
         chains_hold(&dated).iter().for_each(|&persons| lengths[persons as usize] += 1);
+        ended[ended_alike(&dated, &mut seeded).min(3)] += 1;
     }
+    assert!(ended.iter().all(|&count| count > 0), "withdraws and drops by loans ended: {ended:?}");
     assert!(longer > 0, "settling always had the fewest persons");
     assert!(lengths.iter().all(|&count| count > 0), "chains by persons: {lengths:?}");
 }
@@ -183,7 +218,8 @@ pub fn run() {
     let (mut one, mut other) = (Units::fresh(&ENGINE), Units::fresh(&PLAIN));
     assert!(one == other, "the fresh units differ");
     for _ in 0..CALLS {
-        let (command, g) = (DRAWN[seeded.below(DRAWN.len() as u32) as usize], arguments(&mut seeded));
+        let command = DRAWN[seeded.below(DRAWN.len() as u32) as usize];
+        let g = arguments_of(&mut seeded, command, &one.chains.loans);
         let call = Call { command, g, set: set(&mut seeded, one.flat.lists[0]) };
         assert_eq!(one.command(&ENGINE, call), other.command(&PLAIN, call), "{call:?}");
         let q = Question { who: g.to, on: g.on, right: g.right };

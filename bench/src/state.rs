@@ -85,6 +85,9 @@ impl PartialEq for ChainState {
 /// The item and right that the checks ask about.
 pub const KEY: (u32, u32) = (9, 1);
 
+/// Whose grants of the key the withdraws and drops end that end loans: an item amid the others.
+pub const LENDER: u32 = 31;
+
 impl ChainState {
     pub fn fresh() -> ChainState {
         let (grants, loans) = (vec![0; GRANTS_BYTES], vec![0; LOANS_WORDS]);
@@ -130,6 +133,19 @@ impl ChainState {
         ChainState::granted(63).with_loans(count, 63, |loan| loan)
     }
 
+    /// A full table; that many of the loans are the lender's, on the key. Those beyond 512 have last shift 1.
+    pub fn lent_by(own: u32) -> ChainState {
+        let of_others = |loan: Grant| Grant { by: if loan.by == LENDER { LENDER + 1 } else { loan.by }, ..loan };
+        let mut state = ChainState::granted(63).with_loans(LOANS_MAX - own, 63, of_others);
+        for (at, word) in state.loans[1 + (LOANS_MAX - own) as usize..].iter_mut().enumerate() {
+            let at = at as u32;
+            *word = loans::code(LENDER, KEY.0, KEY.1, at / 8 % 64, at % 8) | (at / 512) << 24;
+        }
+        state.loans[0] = LOANS_MAX;
+        state.loans[1..].sort_unstable();
+        state
+    }
+
     /// Up to 40 loans among nine persons, of the key and some of another right. In one state of two most go from a
     /// person to the next, so that chains grow long.
     pub fn crowd(seeded: &mut Seeded) -> ChainState {
@@ -169,6 +185,26 @@ impl ChainState {
             self.lend(place(loan));
         }
         self
+    }
+}
+
+/// A unit, and the lender's grants of the key (a bit for each depth) and the loans as they are put back before a step
+/// that may end them.
+#[derive(Clone, PartialEq)]
+pub struct Lending {
+    pub unit: ChainState,
+    depths: u8,
+    loans: Vec<u32>,
+}
+
+impl Lending {
+    pub fn new(unit: ChainState, depths: u8) -> Lending {
+        Lending { loans: unit.loans.clone(), unit, depths }
+    }
+
+    pub fn put_back(&mut self) {
+        self.unit.grants[(8 + 512 * KEY.0 + 64 * KEY.1 + LENDER) as usize] = self.depths;
+        self.unit.loans.copy_from_slice(&self.loans);
     }
 }
 

@@ -13,6 +13,17 @@ fn place(who: u32, on: u32, right: u32) -> usize {
     (8 + 512 * on + 64 * right + who) as usize
 }
 
+impl Chains<'_> {
+    /// Ends these depths of the grants, a bit each; with the last one that stood, the loans that the person made there.
+    fn end_depths(&mut self, to: u32, on: u32, right: u32, depths: u8) {
+        let cell = &mut self.grants[place(to, on, right)];
+        let stood = std::mem::replace(cell, *cell & !depths);
+        if stood != 0 && *cell == 0 {
+            loans::remove_of_lender(self.loans, to, on, right);
+        }
+    }
+}
+
 impl Unit for Chains<'_> {
     fn order(&self) -> Answer {
         order(self.grants, self.loans)
@@ -48,7 +59,7 @@ impl Unit for Chains<'_> {
     }
 
     fn drop_grants(&mut self, to: u32, on: u32, right: u32) {
-        self.grants[place(to, on, right)] = 0;
+        self.end_depths(to, on, right, u8::MAX);
     }
 }
 
@@ -72,7 +83,7 @@ fn fresh(grants: &mut [u8], table: &mut [u32]) -> u32 {
 fn try_drop(unit: &mut Chains, g: Grant) -> Answer {
     named(unit, g, g.depth)?;
     require(unit.holds(g.by, g.on, 0), NO_EDIT)?;
-    unit.grants[place(g.to, g.on, g.right)] &= !(1 << g.depth);
+    unit.end_depths(g.to, g.on, g.right, 1 << g.depth);
     Ok(())
 }
 
