@@ -1,6 +1,6 @@
 //! The chain unit on fixed calls, with every byte of the chain buffer after a check. Every expected
-//! value is worked out from document 01, its loans open-ended; what stands in quotation marks is
-//! its text.
+//! value is worked out from document 01, its loans open-ended, and E5's from K5 of document 02; what
+//! stands in quotation marks is their text.
 
 mod engine;
 mod model;
@@ -46,14 +46,15 @@ fn handover_e1_to_e4() {
     unit.yes((4, 9, 1), 1, &[3, 4]);
 }
 
-/// "E5 withdraw 3: 5 no. Then allow 3 depth 1: 4 yes at 0, 5 no." "E6 3 lends 5 depth 5: 5 yes at
-/// 1, via 3,5." "E7 delete and create 4: 4 no."
+/// "E5 withdraw 3: 5 no. Then allow 3 depth 1", and by K5 "after the new allow, 4 is no", and 5. "E6 3
+/// lends 5 depth 5: 5 yes at 1, via 3,5." "E7 delete and create 4: 4 no."
 #[test]
 fn handover_e5_to_e7() {
     let mut e5 = Unit::base().after(&[withdraw(0, 3, 9, 1)]);
     e5.no((5, 9, 1));
     e5.give(0, &[allow(0, 3, 9, 1, 1)]);
-    e5.yes((4, 9, 1), 0, &[3, 4]);
+    e5.yes((3, 9, 1), 1, &[3]);
+    e5.no((4, 9, 1));
     e5.no((5, 9, 1));
     let e6 = Unit::base().after(&[lend(3, 5, 9, 1, 5, 0)]);
     e6.yes((5, 9, 1), 1, &[3, 5]);

@@ -1,6 +1,6 @@
 //! The command drop of the chain unit on fixed calls, and what lists and rows, which pass it over, say
-//! beside it. Every expected value is worked out from request K3 of document 02 and from document 01;
-//! what stands in quotation marks is their text. After each call every byte is compared.
+//! beside it. Every expected value is worked out from requests K3 and K5 of document 02 and from document
+//! 01; what stands in quotation marks is their text. After each call every byte is compared.
 
 mod engine;
 mod images;
@@ -53,7 +53,8 @@ impl Units {
         self.images.compare(&Images::of_both(&self.journals));
     }
 
-    /// Each drop is accepted and "ends one grant", which stands: no other byte changes.
+    /// Each drop is accepted and "ends one grant", which stands: no other byte changes. No unit here has
+    /// a loan.
     #[track_caller]
     fn ends(&mut self, drops: &[Command]) {
         for &command in drops {
@@ -138,8 +139,21 @@ fn line_of_loans() -> Unit {
     Unit::base().after(&items).after(&loans).after(&grants)
 }
 
+/// The loans image without the lender's loans of the right on 9.
+fn without(loans: &[u32], lender: u32, right: u32) -> Vec<u32> {
+    let is_theirs =
+        |word: u32| (word >> 18 & 63, word >> 12 & 63, word >> 9 & 7) == (lender, 9, right);
+    let mut words: Vec<u32> = loans[1..].iter().copied().filter(|&word| word > 0).collect();
+    words.retain(|&word| !is_theirs(word));
+    let mut image = vec![loans[0] / 65_536 * 65_536 + words.len() as u32];
+    image.extend(words);
+    image.resize(1025, 0);
+    image
+}
+
 /// "Managers want to lower a person's lending depth without closing the drawer." Depth 7 reaches 17,
-/// depth 3 reaches 13, and with depth 0 10 lends to nobody.
+/// depth 3 reaches 13, and with depth 0 10 lends to nobody. With the last depth 10's loan ends, and a
+/// grant that it gets then reaches nobody else; the others' loans stay.
 #[test]
 fn depth_lowered() {
     let mut unit = line_of_loans();
@@ -154,11 +168,16 @@ fn depth_lowered() {
     unit.give(0, &[drop(0, 10, 9, 5, 3)]);
     unit.yes((10, 9, 5), 0, &[10]);
     (11..=18).for_each(|who| unit.no((who, 9, 5)));
+    assert!(unit.loans == loans);
     unit.give(0, &[drop(0, 10, 9, 5, 0)]);
     (10..=18).for_each(|who| unit.no((who, 9, 5)));
-    assert!(unit.loans == loans);
+    assert!(unit.loans == without(&loans, 10, 5));
     unit.give(0, &[allow(0, 10, 9, 5, 1)]);
+    unit.yes((10, 9, 5), 1, &[10]);
+    unit.no((11, 9, 5));
+    unit.give(0, &[lend(10, 11, 9, 5, 7, 0)]);
     unit.yes((11, 9, 5), 0, &[10, 11]);
+    assert!(unit.loans == loans);
 }
 
 /// A depth below the greatest: every answer is as it was.
@@ -245,11 +264,16 @@ fn edit_grants_at_any_depth() {
 }
 
 /// Each drop after each set of other ones, 1,024 steps: the images are those without the depths given
-/// so far. Every order of the eight is made of such steps. What is left in the end.
+/// so far, and without the person's loans there where the last of them is among those. Every order of
+/// the eight is made of such steps. What is left in the end.
 fn every_order(unit: &Unit, to: u32, right: u32) -> Unit {
+    let at = (8 + 512 * 9 + 64 * right + to) as usize;
     let after = |dropped: u8| {
         let mut due = unit.clone();
-        due.grants[(8 + 512 * 9 + 64 * right + to) as usize] &= !dropped;
+        due.grants[at] &= !dropped;
+        if unit.grants[at] != 0 && due.grants[at] == 0 {
+            due.loans = without(&unit.loans, to, right);
+        }
         due
     };
     for dropped in 0..=255u8 {
@@ -262,16 +286,17 @@ fn every_order(unit: &Unit, to: u32, right: u32) -> Unit {
 }
 
 /// "withdraw is eight drops": in every order they leave what withdraw leaves, where 4 has some depths
-/// of right 1, 3 all of right 0 and the one of the base, and 5 none.
+/// of right 1, 3 all of right 0 and the one of the base, and 5 none. 3, 4 and 5 have lent right 1.
 #[test]
 fn withdraw_is_eight_drops() {
-    let mut unit = Unit::base();
+    let mut unit = Unit::base().after(&[lend(5, 3, 9, 1, 2, 6), lend(4, 3, 9, 1, 2, 6)]);
     unit.give(0, &[0, 3, 7].map(|depth| allow(0, 4, 9, 1, depth)));
     (0..8).for_each(|depth| unit.give(0, &[allow(0, 3, 9, 0, depth)]));
-    for (to, right, stood) in [(4, 1, true), (3, 0, true), (3, 1, true), (5, 1, false)] {
+    let grants = [(4, 1, true, 2), (3, 0, true, 4), (3, 1, true, 3), (5, 1, false, 4)];
+    for (to, right, stood, loans) in grants {
         let at_once = unit.clone().after(&[withdraw(0, to, 9, right)]);
         assert!(every_order(&unit, to, right) == at_once);
-        assert_eq!(at_once != unit, stood);
+        assert_eq!((at_once != unit, at_once.loans[0]), (stood, loans));
     }
 }
 
@@ -415,8 +440,8 @@ fn units_part() {
     assert!(converted == (0, 0) && to_rows == *rows && to_lists == *lists);
 }
 
-/// The chain unit's loans and shift stay, with 1,024 loans too, one of them past, drop refused or not;
-/// those of a person whose last depth ends, and those to that person, among them.
+/// The chain unit's loans and shift stay, with 1,024 loans too, one of them past, drop refused or not,
+/// those to a person whose last depth ends among them. That person's own 64 end, and no other.
 #[test]
 fn loans_and_shift_stay() {
     let dated = [recall(15, 7, 9, 1, 7, 0), lend(15, 7, 9, 1, 7, 5), shift(0, 6)];
@@ -427,10 +452,13 @@ fn loans_and_shift_stay() {
     assert!(unit.loans == loans);
     unit.give(8, &[drop(1, 7, 9, 1, 2)]);
     unit.give(3, &[drop(0, 7, 9, 1, 8)]);
-    unit.give(0, &[drop(0, 7, 9, 1, 2)]);
+    unit.give(0, &[drop(0, 7, 9, 1, 6), drop(0, 8, 9, 1, 2), drop(0, 6, 9, 1, 2)]);
     assert!(unit.loans == loans && unit.grants != grants);
+    unit.give(0, &[drop(0, 7, 9, 1, 2)]);
+    assert_eq!(unit.loans[0], 6 * 65_536 + 960);
+    assert!(unit.loans == without(&loans, 7, 1));
     unit.give(0, &[allow(0, 7, 9, 1, 2), allow(0, 7, 9, 1, 6)]);
-    assert!(unit.grants == grants && unit.loans == loans);
+    assert!(unit.grants == grants && unit.loans == without(&loans, 7, 1));
 }
 
 /// Images not in order and of wrong lengths: 2, and 1 before it, both before 3.

@@ -1,5 +1,5 @@
 //! The chain unit's type on the handover examples of document 01, E1 to E13, its loans open-ended,
-//! and on the stories of document 02's requests K1 to K3.
+//! and on the stories of document 02's requests K1 to K3 and K5.
 
 use rights::{Chains, Depth, Item, ItemSet, Refusal, Right, Shift};
 
@@ -36,14 +36,15 @@ fn e1_to_e4() {
     assert_eq!(check(&unit, 4), Some((1, vec![3, 4])));
 }
 
+/// E5 as K5 has it: "after the new allow, 4 is no."
 #[test]
 fn e5_to_e7() {
     let mut e5 = base();
     assert_eq!(e5.withdraw(Item(0), Item(3), ON, RIGHT), Ok(()));
     assert_eq!(check(&e5, 5), None);
     assert_eq!(e5.allow(Item(0), Item(3), ON, RIGHT, Depth(1)), Ok(()));
-    assert_eq!(check(&e5, 4), Some((0, vec![3, 4])));
-    assert_eq!(check(&e5, 5), None);
+    assert_eq!(check(&e5, 3), Some((1, vec![3])));
+    assert_eq!((check(&e5, 4), check(&e5, 5)), (None, None));
     let mut e6 = base();
     assert_eq!(e6.lend(Item(3), Item(5), ON, RIGHT, Depth(5), OPEN_ENDED), Ok(()));
     assert_eq!(check(&e6, 5), Some((1, vec![3, 5])));
@@ -151,4 +152,20 @@ fn lower_depth() {
     assert_eq!(drop_at(&mut unit, 2), Ok(()));
     assert_eq!(check(&unit, 3), Some((1, vec![3])));
     assert_eq!(drop_at(&mut unit, 8), Err(Refusal::OutOfRange));
+}
+
+/// K5: "Homes now hold that a right given back starts clean." 3 loses the right on 9 and gets it back,
+/// depth and all: 4, to whom 3 had lent it, does not have it, and nor has 5. 4's own loan to 5 stood
+/// throughout, and carries when 3 lends to 4 anew.
+#[test]
+fn starts_clean() {
+    let mut unit = base();
+    assert_eq!(unit.withdraw(Item(0), Item(3), ON, RIGHT), Ok(()));
+    assert_eq!(unit.loans()[0], 1);
+    assert_eq!(unit.allow(Item(0), Item(3), ON, RIGHT, Depth(2)), Ok(()));
+    assert_eq!([3, 4, 5].map(|who| check(&unit, who)), [Some((2, vec![3])), None, None]);
+    assert_eq!(unit.lend(Item(3), Item(4), ON, RIGHT, Depth(1), OPEN_ENDED), Ok(()));
+    assert_eq!(check(&unit, 5), Some((0, vec![3, 4, 5])));
+    assert_eq!(unit.drop_grant(Item(0), Item(3), ON, RIGHT, Depth(2)), Ok(()));
+    assert_eq!(unit.loans()[0], 1);
 }

@@ -40,6 +40,7 @@ fn checks_e1_to_e3() {
     assert_eq!(best(&journal, 0), None);
 }
 
+/// E5 as K5 has it: "after the new allow, 4 is no."
 #[test]
 fn changes_e4_to_e7() {
     let mut e4 = base();
@@ -49,7 +50,7 @@ fn changes_e4_to_e7() {
     assert_eq!(e5.give(withdraw(0, 3, ON, RIGHT)), 0);
     assert_eq!(best(&e5, 5), None);
     assert_eq!(e5.give(allow(0, 3, ON, RIGHT, 1)), 0);
-    assert_eq!((best(&e5, 4), best(&e5, 5)), (Some(0), None));
+    assert_eq!((best(&e5, 3), best(&e5, 4), best(&e5, 5)), (Some(1), None, None));
     let mut e6 = base();
     assert_eq!(e6.give(lend(3, 5, ON, RIGHT, 5, 0)), 0);
     assert_eq!(best(&e6, 5), Some(1));
@@ -268,7 +269,7 @@ fn single_allows() {
 }
 
 /// "drop has withdraw's refusals and 3 for the depth"; "ends one grant"; one that does not stand is no
-/// refusal.
+/// refusal. Depth 2 is 3's last, so its loan ends; 4's stays.
 #[test]
 fn numbers_of_drop() {
     let mut journal = base();
@@ -284,11 +285,13 @@ fn numbers_of_drop() {
     assert_eq!(journal, before);
     assert_eq!(journal.give(drop(0, 3, ON, RIGHT, 2)), 0);
     assert_eq!(before.grants.len(), journal.grants.len() + 1);
-    assert_eq!((best(&journal, 3), best(&journal, 5), journal.loans.len()), (None, None, 2));
+    assert_eq!((best(&journal, 3), best(&journal, 5)), (None, None));
+    assert!(journal.loans.iter().map(|l| (l.lender, l.borrower)).eq([(4, 5)]));
 }
 
 /// "withdraw is eight drops": in all 40,320 orders they leave what document 01 says of withdraw, that
-/// "every depth granted to that person there ends", and so does the model's withdraw.
+/// "every depth granted to that person there ends", and K5, "the loans that person made there end too",
+/// and so does the model's withdraw. 4's loan to 5 at depth 0 is 4·2^18 + 9·2^12 + 1·2^9 + 5·2^3.
 #[test]
 fn withdraw_in_every_order() {
     let mut before = base();
@@ -298,6 +301,7 @@ fn withdraw_in_every_order() {
     }
     let mut left = before.clone();
     left.grants.retain(|g| (g.person, g.item, g.right) != (3, ON, RIGHT));
+    left.loans = BTreeSet::from([loan_of(1_085_992)]);
     let mut at_once = before.clone();
     assert_eq!((at_once.give(withdraw(0, 3, ON, RIGHT)), &at_once), (0, &left));
     let every = orders(&withdraw(0, 3, ON, RIGHT).single_drops());
@@ -307,6 +311,43 @@ fn withdraw_in_every_order() {
         assert!(order.iter().all(|&drop| one_by_one.give(drop) == 0));
         assert_eq!(one_by_one, left);
     }
+}
+
+/// So many loans stand after the commands, each accepted, on the base with these loans of 3 and 4: of
+/// other depths and last shifts, on another item, of another right.
+#[track_caller]
+fn loans_after(commands: &[Command], count: usize) {
+    let mut journal = base();
+    let loans = [
+        lend(3, 4, ON, RIGHT, 7, 0),
+        lend(3, 5, ON, RIGHT, 0, 5),
+        lend(3, 3, ON, RIGHT, 1, 9),
+        lend(3, 4, ON, 2, 1, 0),
+        lend(3, 4, 5, RIGHT, 1, 0),
+        lend(4, 3, ON, RIGHT, 1, 5),
+    ];
+    for &command in loans.iter().chain(&[shift(0, 6)]).chain(commands) {
+        assert_eq!(journal.give(command), 0, "{command:?}");
+    }
+    assert_eq!((journal.loans.len(), journal.shift), (count, 6), "{commands:?}");
+}
+
+/// K5: of the eight loans four are 3's on 9 and right 1, one of them past. They end with 3's last grant
+/// there and with nothing else: no withdraw or drop of another person, item or right ends one,
+/// and none on somebody without a grant there, as 4, who has made two.
+#[test]
+fn withdrawn_lender() {
+    loans_after(&[], 8);
+    loans_after(&[withdraw(0, 3, ON, RIGHT)], 4);
+    loans_after(&[drop(0, 3, ON, RIGHT, 2)], 4);
+    loans_after(&[drop(0, 3, ON, RIGHT, 1)], 8);
+    loans_after(&[allow(0, 3, ON, RIGHT, 0), drop(0, 3, ON, RIGHT, 2)], 8);
+    loans_after(&[allow(0, 3, ON, RIGHT, 0), withdraw(0, 3, ON, RIGHT)], 4);
+    loans_after(&[withdraw(0, 4, ON, RIGHT), drop(0, 4, ON, RIGHT, 1)], 8);
+    loans_after(&[allow(0, 4, ON, RIGHT, 0), withdraw(0, 4, ON, RIGHT)], 6);
+    loans_after(&[allow(0, 3, ON, 0, 3), withdraw(0, 3, ON, 0), withdraw(0, 3, ON, 2)], 8);
+    loans_after(&[allow(0, 3, ON, 2, 0), withdraw(0, 3, ON, 2)], 7);
+    loans_after(&[allow(0, 3, 5, RIGHT, 0), drop(0, 3, 5, RIGHT, 0)], 7);
 }
 
 /// "checked once before the first": 0 withdraws its own edit grant; of the drops, those after depth 0

@@ -240,7 +240,7 @@ mod chains {
     }
 
     /// 12 has right 5 on 9 at depths 1, 2 and 4. Each drop ends its own, and a withdraw what is left;
-    /// the loan stays. Each refusal by its name.
+    /// 3's loan stays. Each refusal by its name.
     #[test]
     fn drops() {
         let deeper = [GRANT, allow(3, 12, 9, 5, 4), allow(3, 12, 9, 5, 1), LOAN];
@@ -265,6 +265,23 @@ mod chains {
         give(&mut unit, &mut journal, &[END_OF_GRANT, drop(3, 3, 9, 0, 0)]);
         assert_eq!((byte(&unit), unit.give(END_OF_ITEM)), (0, Err(Refusal::NoEdit)));
         assert_eq!(unit.loans()[0], 1);
+    }
+
+    /// K5: 3 has right 5 on 9 at depths 1 and 4, and has lent it to 12 and 5. Both loans end with the
+    /// second of the depths, by a drop and by a withdraw, and 12's stays.
+    #[test]
+    fn loans_end_with_the_last_grant() {
+        let loans = [LOAN, lend(3, 5, 9, 5, 0, 0), lend(12, 5, 9, 5, 1, 0)];
+        let depths = [allow(3, 3, 9, 5, 1), allow(3, 3, 9, 5, 4)];
+        let word = (12 << 18) + (9 << 12) + (5 << 9) + (5 << 3) + 1;
+        for last in [drop(3, 3, 9, 5, 4), withdraw(3, 3, 9, 5)] {
+            let (mut unit, mut journal) = created_and(&[depths[0], depths[1]]);
+            give(&mut unit, &mut journal, &loans);
+            give(&mut unit, &mut journal, &[drop(3, 3, 9, 5, 1)]);
+            assert_eq!(unit.loans()[0], 3);
+            give(&mut unit, &mut journal, &[last]);
+            assert_eq!(unit.loans()[..3], [1, word, 0]);
+        }
     }
 
     /// The loan as the paper writes it down, and that a recall ends it and no other.

@@ -277,7 +277,7 @@ impl Journal {
                 command.single_drops().into_iter().for_each(|drop| self.change(drop));
             }
             Command::Drop { to, on, right, depth, .. } => {
-                self.grants.remove(&Grant { item: on, right, person: to, depth });
+                self.drop(Grant { item: on, right, person: to, depth });
             }
             Command::Lend { by, to, on, right, depth, last } => {
                 self.loans.insert(Loan { lender: by, item: on, right, borrower: to, depth, last });
@@ -286,6 +286,15 @@ impl Journal {
                 self.loans.remove(&Loan { lender: by, item: on, right, borrower: to, depth, last });
             }
             Command::Shift { now, .. } => self.shift = now,
+        }
+    }
+
+    /// The grant ends, if it stands. "when a person's last grant on an item and right ends by withdraw
+    /// or drop, the loans that person made there end too".
+    fn drop(&mut self, grant: Grant) {
+        let Grant { item, right, person, .. } = grant;
+        if self.grants.remove(&grant) && !self.granted(person, item, right) {
+            self.loans.retain(|l| (l.lender, l.item, l.right) != (person, item, right));
         }
     }
 

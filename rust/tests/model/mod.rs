@@ -1,5 +1,5 @@
-//! Document 01 once more, with requests K1 to K3 of document 02, in plain Rust over sets. It shares no
-//! code with the engine; where the papers leave a choice, it follows the readings in
+//! Document 01 once more, with requests K1 to K3 and K5 of document 02, in plain Rust over sets. It
+//! shares no code with the engine; where the papers leave a choice, it follows the readings in
 //! docs/DECISIONS.md.
 #![allow(dead_code, unused_imports)]
 
