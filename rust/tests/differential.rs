@@ -42,7 +42,7 @@ impl Counts {
     }
 
     /// Every number of a command, every depth and every length of a chain came up, and every
-    /// situation that shifts, sets of items, drops and the loans of a check are about.
+    /// situation that shifts, sets of items, drops, withdrawn lenders and the loans of a check are about.
     fn assert_broad(&self) {
         let given = [0, 3, 4, 5, 6, 7, 8, 9, 10, 12, 13, 14];
         assert!(given.iter().all(|&n| self.numbers[n] > 0), "numbers {:?}", self.numbers);
@@ -115,8 +115,10 @@ impl Run {
         let numbers: Vec<u32> = command.single_drops().into_iter().map(give).collect();
         let left = (image_of::<GrantLayout>(&journal), loans_image(&journal));
         assert!((&grants, &loans) == (&left.0, &left.1), "drops of {command:?}");
-        let depths = self.journals.chains.depths(to, on, right).count();
-        self.counts.situations.withdraw(depths, &numbers);
+        let chains = &self.journals.chains;
+        let (depths, loans) =
+            (chains.depths(to, on, right).count(), chains.made(to, on, right).count());
+        self.counts.situations.withdraw(depths, loans, &numbers);
         Some(left).filter(|_| numbers == [0; 8])
     }
 

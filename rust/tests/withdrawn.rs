@@ -511,7 +511,7 @@ fn random_state(random: &mut Random) -> Unit {
     let place =
         |random: &mut Random| (random.below(8), random.pick(&[ON, 10]), 1 + random.below(2));
     let mut unit = lent_by(3, []);
-    for _ in 0..8 {
+    for _ in 0..20 {
         let (to, on, right) = place(random);
         unit.give(0, &[allow(0, to, on, right, random.below(8))]);
     }

@@ -79,6 +79,9 @@ pub struct Bias {
     pub held: u32,
     /// Percent of loans to the next item.
     pub to_next: u32,
+    /// Percent of withdraws and drops of one who has lent, and of allows that give back what was
+    /// withdrawn or dropped last.
+    pub lenders: u32,
     /// Percent of numbers that are anything.
     pub wild: u32,
     /// Commands before the units start again.
@@ -97,17 +100,18 @@ const EVEN: Bias = Bias {
     on_key: 0,
     held: 30,
     to_next: 0,
+    lenders: 0,
     wild: 1,
     length: 2_000,
 };
 
-pub const BIASES: [Bias; 12] = [
+pub const BIASES: [Bias; 15] = [
     EVEN,
     Bias { name: "one key", items: 10, shares: [5, 1, 20, 1, 8, 4, 50, 16, 4], on_key: 90, ..EVEN },
     Bias {
         name: "long chains",
         items: 16,
-        shares: [12, 1, 3, 0, 7, 2, 60, 15, 2],
+        shares: [12, 0, 2, 0, 4, 1, 72, 7, 2],
         dated: 10,
         on_key: 97,
         held: 0,
@@ -189,7 +193,43 @@ pub const BIASES: [Bias; 12] = [
         items: 6,
         rights: 1,
         shares: [12, 14, 40, 2, 4, 26, 1, 1, 2],
-        length: 400,
+        length: 900,
+        ..EVEN
+    },
+    Bias {
+        name: "lenders withdrawn",
+        items: 4,
+        shares: [3, 1, 18, 1, 16, 16, 30, 10, 18],
+        dated: 50,
+        on_key: 75,
+        held: 95,
+        lenders: 85,
+        length: 60,
+        ..EVEN
+    },
+    Bias {
+        name: "a lender's last shifts",
+        items: 3,
+        rights: 2,
+        shares: [3, 1, 14, 0, 14, 8, 30, 6, 28],
+        dated: 85,
+        on_key: 85,
+        held: 95,
+        lenders: 90,
+        length: 80,
+        ..EVEN
+    },
+    Bias {
+        name: "many loans of a lender",
+        items: 24,
+        rights: 2,
+        shares: [2, 0, 3, 0, 1, 6, 90, 1, 3],
+        dated: 50,
+        on_key: 95,
+        held: 95,
+        lenders: 90,
+        wild: 0,
+        length: 1_000,
         ..EVEN
     },
 ];
@@ -209,11 +249,13 @@ pub struct Generator {
     allow_set: Option<Command>,
     /// The last grant that was to be dropped.
     dropped: Option<Grant>,
+    /// The last grant that a lender was to lose.
+    withdrawn: Option<Grant>,
 }
 
 impl Generator {
     pub fn new(seed: u64, bias: Bias) -> Self {
-        Self { random: Random::new(seed), bias, allow_set: None, dropped: None }
+        Self { random: Random::new(seed), bias, allow_set: None, dropped: None, withdrawn: None }
     }
 
     /// The next command of a list; `step` counts from 0. A list begins with its items. What lists and
@@ -245,7 +287,7 @@ impl Generator {
                 let on = self.item();
                 Command::Delete { by: self.editor(journal, on), on }
             }
-            2 => Command::Allow { by: self.editor(journal, on), to, on, right, depth },
+            2 => self.allow(journal, Grant { item: on, right, person: to, depth }),
             3 => self.allow_set(journal, on, right),
             4 => self.withdraw(journal),
             5 => self.drop(journal),
@@ -253,6 +295,28 @@ impl Generator {
             7 => self.recall(journal),
             _ => Command::Shift { by: self.editor(journal, 0), now: self.now(journal) },
         }
+    }
+
+    /// The grant, or at times that of one who lost it.
+    fn allow(&mut self, journal: &Journal, grant: Grant) -> Command {
+        let back = self.withdrawn.filter(|_| self.random.percent(self.bias.lenders / 3));
+        let Grant { item: on, right, person: to, .. } = back.unwrap_or(grant);
+        Command::Allow { by: self.editor(journal, on), to, on, right, depth: grant.depth }
+    }
+
+    /// The grant of one who has lent, at a depth that stands if there is one: where the bias has such.
+    fn of_lender(&mut self, journal: &Journal) -> Option<Grant> {
+        if self.bias.lenders == 0 || !self.random.percent(self.bias.lenders) {
+            return None;
+        }
+        let any = self.standing(journal);
+        let held = |loan: &&Loan| journal.granted(loan.lender, loan.item, loan.right);
+        let holder = journal.loans.range(any..).chain(&journal.loans).find(held).copied();
+        let aimed = holder.filter(|_| self.random.percent(75)).unwrap_or(any);
+        let Loan { lender: person, item, right, depth, .. } = aimed;
+        let depth = journal.depths(person, item, right).next().unwrap_or(depth);
+        self.withdrawn = Some(Grant { item, right, person, depth });
+        self.withdrawn
     }
 
     /// An allowset, at times the last one again, or one with dead names or a number beyond the limit
@@ -302,25 +366,25 @@ impl Generator {
 
     /// A grant that stands, or one of right 0 now and then, or any.
     fn withdraw(&mut self, journal: &Journal) -> Command {
+        let of_lender = self.of_lender(journal);
+        let grant = of_lender.unwrap_or_else(|| self.to_withdraw(journal));
+        let by = self.editor(journal, grant.item);
+        Command::Withdraw { by, to: grant.person, on: grant.item, right: grant.right }
+    }
+
+    fn to_withdraw(&mut self, journal: &Journal) -> Grant {
         let (on, right) = self.key();
         let any = Grant { item: on, right, person: self.item(), depth: 0 };
         let standing = journal.grants.range(any..).next().copied();
         let aimed = standing.filter(|g| self.random.percent(if g.right == 0 { 5 } else { 70 }));
-        let grant = aimed.unwrap_or(any);
-        let by = self.editor(journal, grant.item);
-        Command::Withdraw { by, to: grant.person, on: grant.item, right: grant.right }
+        aimed.unwrap_or(any)
     }
 
     /// A grant that stands, a last edit grant seldom, or another depth, or any; at times with what is
     /// refused.
     fn drop(&mut self, journal: &Journal) -> Command {
-        let (on, right) = self.key();
-        let any = Grant { item: on, right, person: self.item(), depth: self.depth() };
-        let standing = journal.grants.range(any..).next().copied();
-        let last_edit =
-            |g: &Grant| g.right == 0 && journal.depths(g.person, g.item, 0).eq([g.depth]);
-        let aimed = standing.filter(|g| self.random.percent(if last_edit(g) { 15 } else { 90 }));
-        let grant = aimed.unwrap_or(any);
+        let of_lender = self.of_lender(journal);
+        let grant = of_lender.unwrap_or_else(|| self.to_drop(journal));
         let depth = if self.random.percent(80) { grant.depth } else { self.number(8) };
         self.dropped = Some(Grant { depth, ..grant });
         let own = self.random.percent(15) && journal.granted(grant.person, grant.item, 0);
@@ -329,6 +393,16 @@ impl Generator {
             return self.faulty_drop(journal, by, Grant { depth, ..grant });
         }
         Command::Drop { by, to: grant.person, on: grant.item, right: grant.right, depth }
+    }
+
+    fn to_drop(&mut self, journal: &Journal) -> Grant {
+        let (on, right) = self.key();
+        let any = Grant { item: on, right, person: self.item(), depth: self.depth() };
+        let standing = journal.grants.range(any..).next().copied();
+        let last_edit =
+            |g: &Grant| g.right == 0 && journal.depths(g.person, g.item, 0).eq([g.depth]);
+        let aimed = standing.filter(|g| self.random.percent(if last_edit(g) { 15 } else { 90 }));
+        aimed.unwrap_or(any)
     }
 
     /// The drop with a dead name or two, one who may not edit, or a depth beyond the limit.

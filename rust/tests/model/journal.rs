@@ -330,6 +330,12 @@ impl Journal {
         self.grants.range(at(0)..=at(7)).map(|g| g.depth)
     }
 
+    /// The loans that a person made on an item and right.
+    pub fn made(&self, lender: u32, item: u32, right: u32) -> impl Iterator<Item = &Loan> {
+        let at = |borrower, depth, last| Loan { lender, item, right, borrower, depth, last };
+        self.loans.range(at(0, 0, 0)..=at(63, 7, 255))
+    }
+
     /// The depths of the carrying loans of a lender to a borrower.
     pub fn lent(&self, lender: u32, item: u32, right: u32, borrower: u32) -> Vec<u32> {
         let at = |depth, last| Loan { lender, item, right, borrower, depth, last };

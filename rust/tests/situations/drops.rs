@@ -110,7 +110,7 @@ impl<'a> Dropped<'a> {
 }
 
 /// The grants and loans of one item and right.
-fn key_of(journal: &Journal, item: u32, right: u32) -> Journal {
+pub fn key_of(journal: &Journal, item: u32, right: u32) -> Journal {
     let at = |person, depth| Grant { item, right, person, depth };
     let grants = journal.grants.range(at(0, 0)..=at(63, 7)).copied().collect();
     let loans = journal.loans.iter().filter(|loan| of_key(loan, item, right)).copied().collect();

@@ -1,13 +1,15 @@
 //! How often a run came upon what shifts are about, loans for one shift, past loans and a shift that
-//! goes back; and upon what allowsets, drops and the loans of a check are about.
+//! goes back; and upon what allowsets, drops, withdrawn lenders and the loans of a check are about.
 
 mod allow_sets;
 mod drops;
 mod picks;
+mod withdrawals;
 
 use crate::model::{Command, Journal, Journals, Loan, Numbers};
 use drops::{Bereft, Dropped};
 use picks::Check;
+use withdrawals::{Memory, Owed, Withdrawal};
 
 /// For each person, what the best chain ends with.
 type Best = [Option<u32>; 64];
@@ -30,6 +32,10 @@ struct Moment<'a> {
     dropped: Option<Dropped<'a>>,
     /// It needs an edit grant that its `by` has dropped.
     bereft: bool,
+    /// What there is to say where it is a withdraw or a drop.
+    withdrawal: Option<Withdrawal<'a>>,
+    /// What it owes to loans that have ended with a grant.
+    owed: Owed,
 }
 
 impl Moment<'_> {
@@ -141,10 +147,14 @@ pub struct Situations {
     withdraws: [u64; drops::WITHDRAWS.len()],
     drop_answers: [u64; drops::ANSWERS.len()],
     picks: [u64; picks::SITUATIONS.len()],
+    loans_end: [u64; withdrawals::ENDS.len()],
+    loans_stay: [u64; withdrawals::OTHERS.len()],
+    withdrawn: [u64; withdrawals::WITHDRAWS.len()],
     freed: bool,
     /// The last accepted allowset.
     allow_set: Option<Command>,
     bereft: Bereft,
+    memory: Memory,
 }
 
 fn of_key(loan: &Loan, item: u32, right: u32) -> bool {
@@ -177,12 +187,24 @@ impl Situations {
             again: self.allow_set == Some(command),
             dropped: Dropped::of(journal, command, number),
             bereft: self.bereft.names(command),
+            withdrawal: Withdrawal::of(journal, command),
+            owed: self.owed(journal, command, number),
         };
         count(&mut self.commands, SITUATIONS.iter().map(|(_, is_one)| is_one(&moment)));
         let allow_sets = allow_sets::SITUATIONS.iter();
         count(&mut self.allow_sets, allow_sets.map(|(_, is_one)| is_one(&moment)));
         count(&mut self.drops, drops::SITUATIONS.iter().map(|(_, is_one)| is_one(&moment)));
+        count(&mut self.loans_end, withdrawals::ENDS.iter().map(|(_, is_one)| is_one(&moment)));
+        count(&mut self.loans_stay, withdrawals::OTHERS.iter().map(|(_, is_one)| is_one(&moment)));
         self.keep(&moment);
+    }
+
+    fn owed(&self, journal: &Journal, command: Command, number: u32) -> Owed {
+        if number == 0 {
+            self.memory.owed(journal, command)
+        } else {
+            Owed::default()
+        }
     }
 
     /// What later moments need to know of this one.
@@ -194,12 +216,14 @@ impl Situations {
         let recalled = moment.recall().is_some_and(|loan| moment.journal.dated().eq([&loan]));
         self.freed = recalled || self.freed && !lent && !moment.back(0);
         self.bereft.take(moment.dropped.as_ref(), moment.number, moment.journal);
+        self.memory.take(moment);
     }
 
-    /// Counts a withdraw of so many depths by the numbers of its eight drops.
-    pub fn withdraw(&mut self, depths: usize, numbers: &[u32]) {
+    /// Counts a withdraw of so many depths and loans by the numbers of its eight drops.
+    pub fn withdraw(&mut self, depths: usize, loans: usize, numbers: &[u32]) {
         let equal = depths > 1 && numbers.iter().all(|&number| number == 0);
         count(&mut self.withdraws, [equal, numbers.contains(&8)]);
+        count(&mut self.withdrawn, [equal && loans > 0]);
     }
 
     /// Counts the answer to a question within the limits; `best` is what the model has there.
@@ -222,6 +246,8 @@ impl Situations {
         let commands = self.commands.iter_mut().chain(&mut self.answers);
         let drops = self.drops.iter_mut().chain(&mut self.withdraws).chain(&mut self.drop_answers);
         let into = commands.chain(&mut self.allow_sets).chain(drops).chain(&mut self.picks);
+        let loans = self.loans_end.iter_mut().chain(&mut self.loans_stay);
+        let into = into.chain(loans).chain(&mut self.withdrawn);
         into.zip(other.counts()).for_each(|(count, more)| *count += more);
     }
 
@@ -233,6 +259,9 @@ impl Situations {
             .chain(&self.allow_sets)
             .chain(drops)
             .chain(&self.picks)
+            .chain(&self.loans_end)
+            .chain(&self.loans_stay)
+            .chain(&self.withdrawn)
     }
 
     /// Each situation by its name, and how often it came up.
@@ -242,7 +271,10 @@ impl Situations {
         let drops =
             drops::SITUATIONS.iter().map(name).chain(drops::WITHDRAWS).chain(drops::ANSWERS);
         let picks = picks::SITUATIONS.iter().map(name);
-        commands.chain(allow_sets).chain(drops).chain(picks).zip(self.counts().copied())
+        let loans = withdrawals::ENDS.iter().chain(&withdrawals::OTHERS).map(name);
+        let named = commands.chain(allow_sets).chain(drops).chain(picks);
+        let named = named.chain(loans).chain(withdrawals::WITHDRAWS);
+        named.zip(self.counts().copied())
     }
 
     pub fn print(&self) {
