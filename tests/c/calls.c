@@ -91,6 +91,21 @@ static uint32_t loan(uint32_t last, uint32_t lender, uint32_t on, uint32_t right
     return last * 16777216 + lender * 262144 + on * 4096 + right * 512 + borrower * 8 + depth;
 }
 
+/* The loan, which did not stand, stands in its place among the others; or it did, and they close up. */
+static void loans_loan(uint32_t word, int stands)
+{
+    uint32_t count = loans_due[0] % 65536, place = 1;
+    while (place <= count && loans_due[place] < word)
+        place++;
+    for (uint32_t k = count; stands && k >= place; k--)
+        loans_due[k + 1] = loans_due[k];
+    for (uint32_t k = place; !stands && k <= count; k++)
+        loans_due[k] = k < count ? loans_due[k + 1] : 0;
+    if (stands)
+        loans_due[place] = word;
+    loans_due[0] = stands ? loans_due[0] + 1 : loans_due[0] - 1;
+}
+
 /* ---- lists and rows: the same calls, each unit with its buffer L, its length N and what it must hold */
 
 #define FLAT(unit, L, N) \
@@ -289,6 +304,12 @@ static void chains_check(const char *call, uint32_t who, uint32_t depth_due, uin
     same_bytes(call, "the chain", chain, chain_due, sizeof chain);
 }
 
+static void chains_lend(uint32_t by, uint32_t to, uint32_t on, uint32_t right, uint32_t depth, uint32_t last)
+{
+    loans_loan(loan(last, by, on, right, to, depth), 1);
+    returned("chains lend", rights_chains_lend(UNIT, by, to, on, right, depth, last), 0);
+}
+
 static const uint8_t through[RIGHTS_CHAIN_PERSONS] = {HOLDER, BORROWER, OWNER, 255, 255, 255, 255, 255};
 static const uint8_t alone[RIGHTS_CHAIN_PERSONS] = {HOLDER, 255, 255, 255, 255, 255, 255, 255};
 static const uint8_t nobody[RIGHTS_CHAIN_PERSONS] = {255, 255, 255, 255, 255, 255, 255, 255};
@@ -304,8 +325,8 @@ static void chains_answers(void)
 }
 
 /*
- * The holder's depth ends and comes back, and with it the chain to the owner; the other depth, an edit grant at depth 4, and the loans
- * stay.
+ * The holder's depth ends, and with it the chain to the owner; the other depth, an edit grant at depth 4, and the loans stay. With the
+ * last depth the holder's loan ends, and the chain comes back when it is lent anew.
  */
 static void chains_drops(void)
 {
@@ -320,13 +341,17 @@ static void chains_drops(void)
     chains_check("chains check, the other depth", HOLDER, 1, 1, alone);
     returned("chains drop, again", rights_chains_drop(UNIT, OWNER, HOLDER, DRAWER, RIGHT, DEPTH), 0);
     grants_grant(HOLDER, DRAWER, RIGHT, 1, 0);
+    loans_loan(loan(LAST, HOLDER, DRAWER, RIGHT, BORROWER, LOAN_DEPTH), 0);
     returned("chains drop, the last depth", rights_chains_drop(UNIT, OWNER, HOLDER, DRAWER, RIGHT, 1), 0);
     chains_check("chains check, the drawer closed", HOLDER, 0, 0, nobody);
     grants_grant(HOLDER, DRAWER, RIGHT, DEPTH, 1);
     returned("chains allow, again", rights_chains_allow(UNIT, OWNER, HOLDER, DRAWER, RIGHT, DEPTH), 0);
     grants_grant(HOLDER, DRAWER, RIGHT, 1, 1);
     returned("chains allow, again", rights_chains_allow(UNIT, OWNER, HOLDER, DRAWER, RIGHT, 1), 0);
-    chains_check("chains check, allowed again", OWNER, 1, 3, through);
+    chains_check("chains check, allowed again", OWNER, 0, 0, nobody);
+    chains_check("chains check, allowed again", HOLDER, DEPTH, 1, alone);
+    chains_lend(HOLDER, BORROWER, DRAWER, RIGHT, LOAN_DEPTH, LAST);
+    chains_check("chains check, lent again", OWNER, 1, 3, through);
 }
 
 /* The owner ends its own last edit grant; the holder ends a depth, gives the grant back, and loses its own. */
@@ -510,6 +535,133 @@ static void chains_endings(void)
     returned("chains delete", rights_chains_delete(UNIT, OWNER, DRAWER), 0);
 }
 
+/* ---- a lender's loans end with its last grant of the right on the item */
+
+/* The holder has the right at two depths and the owner at one; nobody has lent. */
+static void lenders_grants(void)
+{
+    memset(grants_due, 0, sizeof grants_due);
+    memset(loans_due, 0, sizeof loans_due);
+    grants_item(ROOT, 1);
+    grants_grant(ROOT, ROOT, 0, 0, 1);
+    returned("chains fresh", rights_chains_fresh(UNIT), 0);
+    chains_create(ROOT, OWNER);
+    chains_create(ROOT, HOLDER);
+    chains_create(ROOT, BORROWER);
+    chains_create(ROOT, DRAWER);
+    grants_grant(OWNER, DRAWER, 0, 4, 1);
+    returned("chains allow, edit", rights_chains_allow(UNIT, ROOT, OWNER, DRAWER, 0, 4), 0);
+    chains_allow(HOLDER, DRAWER, RIGHT, DEPTH);
+    chains_allow(HOLDER, DRAWER, RIGHT, 1);
+    chains_allow(OWNER, DRAWER, RIGHT, 0);
+}
+
+/* Five of these are the holder's of that right on that drawer; of the five others each differs in one thing or two. In shift 2. */
+static void lenders_loans(void)
+{
+    chains_lend(HOLDER, BORROWER, DRAWER, RIGHT, LOAN_DEPTH, LAST);
+    chains_lend(HOLDER, BORROWER, DRAWER, RIGHT, 7, 0);
+    chains_lend(HOLDER, ROOT, DRAWER, RIGHT, 0, 0);
+    chains_lend(HOLDER, HOLDER, DRAWER, RIGHT, 3, 1);
+    chains_lend(HOLDER, OWNER, DRAWER, RIGHT, 5, RIGHTS_SHIFT_MAX);
+    chains_lend(HOLDER, BORROWER, DRAWER, SET_RIGHT, 1, 0);
+    chains_lend(HOLDER, BORROWER, OWNER, RIGHT, 1, 0);
+    chains_lend(BORROWER, OWNER, DRAWER, RIGHT, 4, 0);
+    chains_lend(OWNER, HOLDER, DRAWER, RIGHT, 1, LAST);
+    chains_lend(DRAWER, BORROWER, HOLDER, RIGHT, 1, 0);
+    loans_due[0] += 2 * 65536;
+    returned("chains shift", rights_chains_shift(UNIT, ROOT, 2), 0);
+}
+
+/* The holder's five. */
+static void holders_loans_end(void)
+{
+    loans_loan(loan(LAST, HOLDER, DRAWER, RIGHT, BORROWER, LOAN_DEPTH), 0);
+    loans_loan(loan(0, HOLDER, DRAWER, RIGHT, BORROWER, 7), 0);
+    loans_loan(loan(0, HOLDER, DRAWER, RIGHT, ROOT, 0), 0);
+    loans_loan(loan(1, HOLDER, DRAWER, RIGHT, HOLDER, 3), 0);
+    loans_loan(loan(RIGHTS_SHIFT_MAX, HOLDER, DRAWER, RIGHT, OWNER, 5), 0);
+}
+
+/* On one without a grant there, and of a depth that does not stand. */
+static void lenders_left(void)
+{
+    returned("chains withdraw, a lender without a grant", rights_chains_withdraw(UNIT, ROOT, BORROWER, DRAWER, RIGHT), 0);
+    returned("chains drop, a lender without a grant", rights_chains_drop(UNIT, ROOT, BORROWER, DRAWER, RIGHT, 4), 0);
+    returned("chains withdraw, a grant of another right", rights_chains_withdraw(UNIT, ROOT, HOLDER, DRAWER, SET_RIGHT), 0);
+    returned("chains withdraw, a grant on another item", rights_chains_withdraw(UNIT, ROOT, HOLDER, OWNER, RIGHT), 0);
+    returned("chains withdraw, the drawer as a lender", rights_chains_withdraw(UNIT, ROOT, DRAWER, HOLDER, RIGHT), 0);
+    for (uint32_t depth = 2; depth < DEPTH; depth++)
+        returned("chains drop, a lender's other depths", rights_chains_drop(UNIT, ROOT, HOLDER, DRAWER, RIGHT, depth), 0);
+}
+
+static void lenders_refusals(void)
+{
+    returned("chains withdraw, right 11", rights_chains_withdraw(UNIT, ROOT, HOLDER, DRAWER, RIGHT + 8), 3);
+    returned("chains withdraw, by 64", rights_chains_withdraw(UNIT, 64, HOLDER, DRAWER, RIGHT), 3);
+    returned("chains withdraw, to 75", rights_chains_withdraw(UNIT, ROOT, HOLDER + 64, DRAWER, RIGHT), 3);
+    returned("chains withdraw, on 87", rights_chains_withdraw(UNIT, ROOT, HOLDER, DRAWER + 64, RIGHT), 3);
+    returned("chains withdraw, by dead", rights_chains_withdraw(UNIT, DEAD, HOLDER, DRAWER, RIGHT), 4);
+    returned("chains withdraw, to dead", rights_chains_withdraw(UNIT, ROOT, DEAD, DRAWER, RIGHT), 5);
+    returned("chains withdraw, on dead", rights_chains_withdraw(UNIT, ROOT, HOLDER, DEAD, RIGHT), 5);
+    returned("chains withdraw by another", rights_chains_withdraw(UNIT, BORROWER, HOLDER, DRAWER, RIGHT), 8);
+    returned("chains withdraw, its own, without edit", rights_chains_withdraw(UNIT, HOLDER, HOLDER, DRAWER, RIGHT), 8);
+    returned("chains drop, its own, without edit", rights_chains_drop(UNIT, HOLDER, HOLDER, DRAWER, RIGHT, 1), 8);
+    returned("chains withdraw, length", rights_chains_withdraw(SHORT_GRANTS, ROOT, HOLDER, DRAWER, RIGHT), 1);
+    returned("chains withdraw, length", rights_chains_withdraw(SHORT_LOANS, ROOT, HOLDER, DRAWER, RIGHT), 1);
+    loans[0] = --loans_due[0];
+    returned("chains withdraw, one loan uncounted", rights_chains_withdraw(UNIT, ROOT, HOLDER, DRAWER, RIGHT), 2);
+    returned("chains drop, one loan uncounted", rights_chains_drop(UNIT, ROOT, HOLDER, DRAWER, RIGHT, 1), 2);
+    loans[0] = ++loans_due[0];
+}
+
+/* With the second depth the five end, and the right given back is the holder's alone. */
+static void lenders_endings(void)
+{
+    chains_drop(ROOT, HOLDER, DRAWER, RIGHT, DEPTH);
+    lenders_refusals();
+    grants_grant(HOLDER, DRAWER, RIGHT, 1, 0);
+    holders_loans_end();
+    returned("chains withdraw, a lender", rights_chains_withdraw(UNIT, ROOT, HOLDER, DRAWER, RIGHT), 0);
+    chains_allow(HOLDER, DRAWER, RIGHT, DEPTH);
+    chains_check("chains check, given back", HOLDER, DEPTH, 1, alone);
+    chains_check("chains check, given back", BORROWER, 0, 0, nobody);
+    chains_lend(HOLDER, BORROWER, DRAWER, RIGHT, LOAN_DEPTH, LAST);
+    grants_grant(HOLDER, DRAWER, RIGHT, DEPTH, 0);
+    loans_loan(loan(LAST, HOLDER, DRAWER, RIGHT, BORROWER, LOAN_DEPTH), 0);
+    returned("chains drop, a lender", rights_chains_drop(UNIT, OWNER, HOLDER, DRAWER, RIGHT, DEPTH), 0);
+    returned("chains shift, a last shift stands", rights_chains_shift(UNIT, ROOT, 1), 12);
+    grants_grant(OWNER, DRAWER, RIGHT, 0, 0);
+    loans_loan(loan(LAST, OWNER, DRAWER, RIGHT, HOLDER, 1), 0);
+    returned("chains withdraw, its own", rights_chains_withdraw(UNIT, OWNER, OWNER, DRAWER, RIGHT), 0);
+    loans_due[0] -= 65536;
+    returned("chains shift, none stands", rights_chains_shift(UNIT, ROOT, 1), 0);
+}
+
+/*
+ * Every place of the table in use, by two lenders in turn, 40 loans of each with every last shift from 1 to 12, and 40 and 24 with 13;
+ * the owner's 520 are left.
+ */
+static void lenders_full(void)
+{
+    static const uint32_t borrowers[] = {ROOT, OWNER, HOLDER, DRAWER, BORROWER};
+    chains_allow(HOLDER, DRAWER, RIGHT, 7);
+    loans_due[0] = 7 * 65536 + RIGHTS_LOANS_MAX;
+    for (uint32_t n = 0; n < RIGHTS_LOANS_MAX; n++)
+        loans_due[1 + n] = loan(1 + n / 80, n / 40 % 2 ? HOLDER : OWNER, DRAWER, RIGHT, borrowers[n / 8 % 5], n % 8);
+    memcpy(loans, loans_due, sizeof loans);
+    returned("chains inspect, a full table", rights_chains_inspect(UNIT), 0);
+    returned("chains lend, a full table", rights_chains_lend(UNIT, ROOT, OWNER, DRAWER, RIGHT, 4, 0), 10);
+    returned("chains withdraw, a full table, no grant", rights_chains_withdraw(UNIT, ROOT, OWNER, DRAWER, RIGHT), 0);
+    for (uint32_t n = 0; n < RIGHTS_LOANS_MAX; n++)
+        if (n / 40 % 2)
+            loans_loan(loan(1 + n / 80, HOLDER, DRAWER, RIGHT, borrowers[n / 8 % 5], n % 8), 0);
+    same("a full table", "the loans that are left", loans_due[0], 7 * 65536 + 520);
+    grants_grant(HOLDER, DRAWER, RIGHT, 7, 0);
+    returned("chains withdraw, a lender of half the table", rights_chains_withdraw(UNIT, ROOT, HOLDER, DRAWER, RIGHT), 0);
+    chains_lend(ROOT, OWNER, DRAWER, RIGHT, 4, 0);
+}
+
 /* ---- which engine this is, and the texts */
 
 static void engine(void)
@@ -559,6 +711,11 @@ int main(void)
     chains_refusals();
     chains_lengths();
     chains_endings();
+    lenders_grants();
+    lenders_loans();
+    lenders_left();
+    lenders_endings();
+    lenders_full();
     engine();
     texts();
     printf("C calls: %u compared, %u differ\n", compared, differences);

@@ -12,7 +12,7 @@
 #include "rights.h"
 
 enum { STACK = 64 * 1024, PAINT = 0xa5 };
-enum { LENDER = 3, DRAWER = 9, RIGHT = 1, DEAD = 60, LAST = 4 };
+enum { LENDER = 3, OTHER = 4, DRAWER = 9, RIGHT = 1, DEAD = 60, LAST = 4 };
 
 static unsigned char stack[STACK];
 static ucontext_t here, there;
@@ -65,7 +65,7 @@ CALL(chains_delete, UNIT, 0, DEAD)
 CALL(chains_allow, UNIT, 0, LENDER, DRAWER, RIGHT, 7)
 CALL(chains_allow_set, UNIT, 0, SET, DRAWER, RIGHT, 7)
 CALL(chains_withdraw, UNIT, 0, LENDER, DRAWER, RIGHT)
-CALL(chains_drop, UNIT, 0, LENDER, DRAWER, RIGHT, 7)
+CALL(chains_drop, UNIT, 0, OTHER, DRAWER, RIGHT, OTHER)
 CALL(chains_lend, UNIT, LENDER, 0, DRAWER, RIGHT, 7, LAST)
 CALL(chains_recall, UNIT, LENDER, 0, DRAWER, RIGHT, 7, LAST)
 CALL(chains_shift, UNIT, 0, LAST)
@@ -74,7 +74,10 @@ CALL(chains_inspect, UNIT)
 CALL(version, )
 CALL(layout_date, )
 
-/* fresh stands last of its unit: it leaves nothing of the state that the others are measured on. */
+/*
+ * fresh stands last of its unit: it leaves nothing of the state that the others are measured on. drop and withdraw stand before allow
+ * and allow_set: each ends the last grant of a lender, and its loans.
+ */
 static const struct {
     const char *name;
     void (*call)(void);
@@ -85,9 +88,9 @@ static const struct {
     {"rows_subjects", rows_subjects}, {"rows_allow", rows_allow}, {"rows_allow_set", rows_allow_set},
     {"rows_withdraw", rows_withdraw}, {"rows_create", rows_create}, {"rows_delete", rows_delete}, {"rows_to_lists", rows_to_lists},
     {"lists_fresh", lists_fresh}, {"rows_fresh", rows_fresh}, {"chains_inspect", chains_inspect}, {"chains_check", chains_check},
-    {"chains_allow", chains_allow}, {"chains_allow_set", chains_allow_set}, {"chains_lend", chains_lend},
-    {"chains_recall", chains_recall}, {"chains_create", chains_create}, {"chains_delete", chains_delete},
-    {"chains_drop", chains_drop}, {"chains_withdraw", chains_withdraw}, {"chains_shift", chains_shift},
+    {"chains_lend", chains_lend}, {"chains_recall", chains_recall}, {"chains_drop", chains_drop},
+    {"chains_withdraw", chains_withdraw}, {"chains_allow", chains_allow}, {"chains_allow_set", chains_allow_set},
+    {"chains_create", chains_create}, {"chains_delete", chains_delete}, {"chains_shift", chains_shift},
     {"chains_fresh", chains_fresh}, {"version", version}, {"layout_date", layout_date},
 };
 enum { CALLS = sizeof calls / sizeof calls[0] };
