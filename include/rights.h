@@ -251,17 +251,24 @@ RIGHTS_NODISCARD uint32_t rights_chains_allow(uint8_t *grants, size_t bytes, uin
 RIGHTS_NODISCARD uint32_t rights_chains_allow_set(uint8_t *grants, size_t bytes, uint32_t *loans, size_t words, uint32_t by,
     uint64_t set, uint32_t on, uint32_t right, uint32_t depth) RIGHTS_NONNULL;
 
-/* Ends the grants of to at every depth, as a drop of each depth would; loans stay. 0 to 5 or 8. */
+/*
+ * Ends the grants of to at every depth, as a drop of each depth would, and where one stood every loan that to made of the right on item
+ * on, past ones too; loans by others stay. 0 to 5 or 8.
+ */
 RIGHTS_NODISCARD uint32_t rights_chains_withdraw(uint8_t *grants, size_t bytes, uint32_t *loans, size_t words, uint32_t by,
     uint32_t to, uint32_t on, uint32_t right) RIGHTS_NONNULL;
 
-/* Ends just that grant of to, if it stands: the other depths stay, and so do loans. 0 to 5 or 8. */
+/*
+ * Ends just that grant of to, if it stands: the other depths stay, and the loans with them. With the last depth end the loans that end
+ * with a withdraw. 0 to 5 or 8.
+ */
 RIGHTS_NODISCARD uint32_t rights_chains_drop(uint8_t *grants, size_t bytes, uint32_t *loans, size_t words, uint32_t by, uint32_t to,
     uint32_t on, uint32_t right, uint32_t depth) RIGHTS_NONNULL;
 
 /*
  * Lends the right on item on from by to to at that depth, also where by holds nothing yet. With a last shift the loan carries up to and
- * in that shift; with last 0 it is open-ended. The same loan with another last is another loan. 0 to 5, 9, 13 or 10.
+ * in that shift; with last 0 it is open-ended. The same loan with another last is another loan. It stands until it is recalled, an item
+ * that it names is deleted, or by's last grant there is withdrawn or dropped. 0 to 5, 9, 13 or 10.
  */
 RIGHTS_NODISCARD uint32_t rights_chains_lend(uint8_t *grants, size_t bytes, uint32_t *loans, size_t words, uint32_t by, uint32_t to,
     uint32_t on, uint32_t right, uint32_t depth, uint32_t last) RIGHTS_NONNULL;
@@ -271,7 +278,7 @@ RIGHTS_NODISCARD uint32_t rights_chains_recall(uint8_t *grants, size_t bytes, ui
     uint32_t to, uint32_t on, uint32_t right, uint32_t depth, uint32_t last) RIGHTS_NONNULL;
 
 /*
- * Sets the present shift; needs an edit grant on item 0. A loan that is past its last shift stands and counts until it is recalled, but
+ * Sets the present shift; needs an edit grant on item 0. A loan that is past its last shift stands and counts as any other does, but
  * no chain uses it. The shift may start again lower once no loan with a last shift stands. 0 to 4, 8 or 12.
  */
 RIGHTS_NODISCARD uint32_t rights_chains_shift(uint8_t *grants, size_t bytes, uint32_t *loans, size_t words, uint32_t by,

@@ -267,17 +267,45 @@ impl Chains {
         answer(lent::chains::allow_set(grants, loans, by.0, set.0, on.0, right.0, depth.0))
     }
 
-    /// Ends the grants of the right on the item to `to`, at every depth. Loans stay.
+    /// Ends the grants of the right on the item to `to`, at every depth, and where one stood the
+    /// loans of that right on that item that `to` made, past ones too. Loans by others stay, those
+    /// further down among them. Where `to` has no grant there, nothing ends.
     ///
     /// It is [`drop_grant`](Self::drop_grant) for each of the eight depths, judged once before the
     /// first: `by` may end all of its own edit grants with it.
+    ///
+    /// A right given back starts clean:
+    ///
+    /// ```
+    /// use rights::{Chains, Depth, Item, Refusal, Right, Shift};
+    ///
+    /// let mut unit = Chains::fresh();
+    /// for item in [3, 4, 5, 9] {
+    ///     unit.create(Item(0), Item(item))?;
+    /// }
+    /// unit.allow(Item(0), Item(3), Item(9), Right(1), Depth(2))?;
+    /// unit.lend(Item(3), Item(4), Item(9), Right(1), Depth(1), Shift(0))?;
+    /// unit.lend(Item(4), Item(5), Item(9), Right(1), Depth(0), Shift(0))?;
+    /// assert!(unit.check(Item(5), Item(9), Right(1))?.yes());
+    ///
+    /// unit.withdraw(Item(0), Item(3), Item(9), Right(1))?;
+    /// unit.allow(Item(0), Item(3), Item(9), Right(1), Depth(2))?;
+    /// assert!(unit.check(Item(3), Item(9), Right(1))?.yes());
+    /// assert!(!unit.check(Item(4), Item(9), Right(1))?.yes());
+    ///
+    /// // 4's own loan to 5 stood throughout.
+    /// unit.lend(Item(3), Item(4), Item(9), Right(1), Depth(1), Shift(0))?;
+    /// assert!(unit.check(Item(5), Item(9), Right(1))?.yes());
+    /// # Ok::<(), Refusal>(())
+    /// ```
     pub fn withdraw(&mut self, by: Item, to: Item, on: Item, right: Right) -> Result<(), Refusal> {
         let (grants, loans) = (&mut self.grants, &mut self.loans);
         answer(lent::chains::withdraw(grants, loans, by.0, to.0, on.0, right.0))
     }
 
     /// Ends just that grant of `to`, if it stands: the command `drop`. Grants at other depths stay,
-    /// and so do loans.
+    /// and while one does so do loans; with the last of them end the loans of that right on that
+    /// item that `to` made, as by [`withdraw`](Self::withdraw).
     ///
     /// A manager lowers the depth at which a person may lend, and the drawer stays open:
     ///
@@ -318,7 +346,8 @@ impl Chains {
 
     /// Lends the right on the item from `by` to `to` at the depth, also where `by` holds none yet.
     /// The loan carries up to and in its `last` shift; with `Shift(0)` it is open-ended. The same
-    /// loan with another `last` is another loan.
+    /// loan with another `last` is another loan. It stands until it is recalled, an item that it
+    /// names is deleted, or the last grant that `by` has there is withdrawn or dropped.
     pub fn lend(
         &mut self,
         by: Item,
@@ -347,8 +376,8 @@ impl Chains {
     }
 
     /// Sets the present shift, where `by` may edit item 0. A loan that is past its last shift
-    /// stands and counts until it is recalled, but no chain uses it. The shift may start again
-    /// lower once no loan with a last shift stands.
+    /// stands and counts as any other does, but no chain uses it. The shift may start again lower
+    /// once no loan with a last shift stands.
     ///
     /// ```
     /// use rights::{Chains, Depth, Item, Refusal, Right, Shift};

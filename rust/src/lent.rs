@@ -290,11 +290,11 @@ pub mod chains {
         allow_set, rights_chains_allow_set, by: u32, set: u64, on: u32, right: u32, depth: u32
     );
     lend_command!(
-        /// withdraw (by, to, on, right).
+        /// withdraw (by, to, on, right); where a grant ends, so do the loans that `to` made there.
         withdraw, rights_chains_withdraw, by: u32, to: u32, on: u32, right: u32
     );
     lend_command!(
-        /// drop (by, to, on, right, depth).
+        /// drop (by, to, on, right, depth); with the last depth end the loans that `to` made there.
         drop, rights_chains_drop, by: u32, to: u32, on: u32, right: u32, depth: u32
     );
     lend_command!(
