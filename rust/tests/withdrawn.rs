@@ -310,20 +310,23 @@ fn every_depth_and_last_shift() {
     leaves(&unit, withdraw(0, 3, ON, RIGHT), &due);
 }
 
-/// Loans of 3 on each item and of each right, each to the same person: of these one ends, that on the
-/// item and of the right that 3 has a grant of.
+/// Loans of 3 on each item and of each right, each to the same person and up to shift 8, which is to come
+/// or past: of these one ends, that on the item and of the right that 3 has a grant of.
 #[test]
 fn other_items_and_rights() {
-    let every = (0..64 * 7).map(|n| Loan { item: n / 7, right: n % 7 + 1, ..loan(3, 5, 2, 8) });
-    let unit = lent_by(0, every);
-    for (on, right) in (0..64 * 7).map(|n| (n / 7, n % 7 + 1)) {
-        let at = (3, on, right);
-        let granted = unit.clone().after(&[allow(0, 3, on, right, right)]);
-        let due = clean(&granted, at);
-        assert_eq!((due.loans[0], due.grants == unit.grants), (447, true));
-        leaves(&granted, withdraw(0, 3, on, right), &due);
-        leaves(&granted, drop(0, 3, on, right, right), &due);
-        changes_nothing(&granted, &[drop(0, 3, on, right, right ^ 1)]);
+    let place = |n: u32| (n / 7, n % 7 + 1);
+    for shift in [0, 9] {
+        let every =
+            (0..64 * 7).map(place).map(|(item, right)| Loan { item, right, ..loan(3, 5, 2, 8) });
+        let unit = lent_by(shift, every);
+        for (on, right) in (0..64 * 7).map(place) {
+            let granted = unit.clone().after(&[allow(0, 3, on, right, right)]);
+            let due = clean(&granted, (3, on, right));
+            assert!(due.loans[0] == shift * 65_536 + 447 && due.grants == unit.grants);
+            leaves(&granted, withdraw(0, 3, on, right), &due);
+            leaves(&granted, drop(0, 3, on, right, right), &due);
+            changes_nothing(&granted, &[drop(0, 3, on, right, right ^ 1)]);
+        }
     }
 }
 
@@ -368,6 +371,20 @@ fn further_down() {
     unit.give(0, &[allow(0, 3, ON, RIGHT, 7)]);
     unit.yes((4, ON, RIGHT), 3, &[11, 4]);
     unit.yes((10, ON, RIGHT), 1, &[11, 4, 5, 10]);
+}
+
+/// Of the grants that person's alone end: 4 and 5, to whom 3 has lent, keep theirs and what they have lent
+/// out of them.
+#[test]
+fn grants_of_borrowers() {
+    let grants = [allow(0, 4, ON, RIGHT, 3), allow(0, 5, ON, RIGHT, 0), allow(0, 4, ON, 0, 6)];
+    let unit = Unit::base().after(&grants).after(&[lend(3, 5, ON, RIGHT, 1, 0)]);
+    let due = clean(&unit, (3, ON, RIGHT));
+    assert_eq!((due.grants[byte((4, ON, RIGHT))], due.grants[byte((5, ON, RIGHT))]), (1 << 3, 1));
+    leaves(&unit, withdraw(0, 3, ON, RIGHT), &due);
+    leaves(&unit, drop(4, 3, ON, RIGHT, 2), &due);
+    due.yes((4, ON, RIGHT), 3, &[4]);
+    due.yes((5, ON, RIGHT), 0, &[5]);
 }
 
 /// A person may withdraw its own right, and its loans end as by another; with its edit grant none ends.

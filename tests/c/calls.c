@@ -553,10 +553,10 @@ static void lenders_grants(void)
     returned("chains allow, edit", rights_chains_allow(UNIT, ROOT, OWNER, DRAWER, 0, 4), 0);
     chains_allow(HOLDER, DRAWER, RIGHT, DEPTH);
     chains_allow(HOLDER, DRAWER, RIGHT, 1);
-    chains_allow(OWNER, DRAWER, RIGHT, 0);
+    chains_allow(OWNER, DRAWER, RIGHT, 3);
 }
 
-/* Five of these are the holder's of that right on that drawer; of the five others each differs in one thing or two. In shift 2. */
+/* Five of these are the holder's of that right on that drawer; of the five others each differs in one thing or two. Two are past. */
 static void lenders_loans(void)
 {
     chains_lend(HOLDER, BORROWER, DRAWER, RIGHT, LOAN_DEPTH, LAST);
@@ -564,7 +564,7 @@ static void lenders_loans(void)
     chains_lend(HOLDER, ROOT, DRAWER, RIGHT, 0, 0);
     chains_lend(HOLDER, HOLDER, DRAWER, RIGHT, 3, 1);
     chains_lend(HOLDER, OWNER, DRAWER, RIGHT, 5, RIGHTS_SHIFT_MAX);
-    chains_lend(HOLDER, BORROWER, DRAWER, SET_RIGHT, 1, 0);
+    chains_lend(HOLDER, BORROWER, DRAWER, SET_RIGHT, 1, 1);
     chains_lend(HOLDER, BORROWER, OWNER, RIGHT, 1, 0);
     chains_lend(BORROWER, OWNER, DRAWER, RIGHT, 4, 0);
     chains_lend(OWNER, HOLDER, DRAWER, RIGHT, 1, LAST);
@@ -630,8 +630,12 @@ static void lenders_endings(void)
     grants_grant(HOLDER, DRAWER, RIGHT, DEPTH, 0);
     loans_loan(loan(LAST, HOLDER, DRAWER, RIGHT, BORROWER, LOAN_DEPTH), 0);
     returned("chains drop, a lender", rights_chains_drop(UNIT, OWNER, HOLDER, DRAWER, RIGHT, DEPTH), 0);
+    chains_allow(HOLDER, DRAWER, SET_RIGHT, 2);
+    grants_grant(HOLDER, DRAWER, SET_RIGHT, 2, 0);
+    loans_loan(loan(1, HOLDER, DRAWER, SET_RIGHT, BORROWER, 1), 0);
+    returned("chains withdraw, a past loan alone", rights_chains_withdraw(UNIT, ROOT, HOLDER, DRAWER, SET_RIGHT), 0);
     returned("chains shift, a last shift stands", rights_chains_shift(UNIT, ROOT, 1), 12);
-    grants_grant(OWNER, DRAWER, RIGHT, 0, 0);
+    grants_grant(OWNER, DRAWER, RIGHT, 3, 0);
     loans_loan(loan(LAST, OWNER, DRAWER, RIGHT, HOLDER, 1), 0);
     returned("chains withdraw, its own", rights_chains_withdraw(UNIT, OWNER, OWNER, DRAWER, RIGHT), 0);
     loans_due[0] -= 65536;
@@ -640,12 +644,13 @@ static void lenders_endings(void)
 
 /*
  * Every place of the table in use, by two lenders in turn, 40 loans of each with every last shift from 1 to 12, and 40 and 24 with 13;
- * the owner's 520 are left.
+ * the owner's 520 are left, the first word of the table among them.
  */
 static void lenders_full(void)
 {
     static const uint32_t borrowers[] = {ROOT, OWNER, HOLDER, DRAWER, BORROWER};
     chains_allow(HOLDER, DRAWER, RIGHT, 7);
+    chains_allow(HOLDER, DRAWER, RIGHT, 2);
     loans_due[0] = 7 * 65536 + RIGHTS_LOANS_MAX;
     for (uint32_t n = 0; n < RIGHTS_LOANS_MAX; n++)
         loans_due[1 + n] = loan(1 + n / 80, n / 40 % 2 ? HOLDER : OWNER, DRAWER, RIGHT, borrowers[n / 8 % 5], n % 8);
@@ -658,8 +663,40 @@ static void lenders_full(void)
             loans_loan(loan(1 + n / 80, HOLDER, DRAWER, RIGHT, borrowers[n / 8 % 5], n % 8), 0);
     same("a full table", "the loans that are left", loans_due[0], 7 * 65536 + 520);
     grants_grant(HOLDER, DRAWER, RIGHT, 7, 0);
+    grants_grant(HOLDER, DRAWER, RIGHT, 2, 0);
     returned("chains withdraw, a lender of half the table", rights_chains_withdraw(UNIT, ROOT, HOLDER, DRAWER, RIGHT), 0);
     chains_lend(ROOT, OWNER, DRAWER, RIGHT, 4, 0);
+    loans_loan(loan(0, ROOT, DRAWER, RIGHT, OWNER, 4), 0);
+    returned("chains recall", rights_chains_recall(UNIT, ROOT, OWNER, DRAWER, RIGHT, 4, 0), 0);
+    chains_allow(OWNER, DRAWER, RIGHT, 5);
+    chains_allow(OWNER, DRAWER, RIGHT, 0);
+    chains_drop(ROOT, OWNER, DRAWER, RIGHT, 5);
+    memset(loans_due, 0, sizeof loans_due);
+    loans_due[0] = 7 * 65536;
+    chains_drop(ROOT, OWNER, DRAWER, RIGHT, 0);
+}
+
+/*
+ * The greatest item, right, depth and last shift, and the least: each lender's one loan ends, and those stay whose lender, item or right
+ * would be the same if its highest bit were cut.
+ */
+static void lenders_limits(void)
+{
+    const uint32_t half = RIGHTS_ITEM_MAX / 2, right = RIGHTS_RIGHT_MAX / 2;
+    chains_create(ROOT, half);
+    chains_create(ROOT, RIGHTS_ITEM_MAX);
+    chains_lend(half, RIGHTS_ITEM_MAX, RIGHTS_ITEM_MAX, RIGHTS_RIGHT_MAX, 7, RIGHTS_SHIFT_MAX);
+    chains_lend(RIGHTS_ITEM_MAX, RIGHTS_ITEM_MAX, half, RIGHTS_RIGHT_MAX, 7, RIGHTS_SHIFT_MAX);
+    chains_lend(RIGHTS_ITEM_MAX, RIGHTS_ITEM_MAX, RIGHTS_ITEM_MAX, right, 7, RIGHTS_SHIFT_MAX);
+    chains_lend(RIGHTS_ITEM_MAX, RIGHTS_ITEM_MAX, RIGHTS_ITEM_MAX, RIGHTS_RIGHT_MAX, 7, RIGHTS_SHIFT_MAX);
+    chains_lend(ROOT, ROOT, ROOT, 1, 0, 0);
+    chains_allow(RIGHTS_ITEM_MAX, RIGHTS_ITEM_MAX, RIGHTS_RIGHT_MAX, 7);
+    chains_allow(ROOT, ROOT, 1, 0);
+    loans_loan(loans_due[5], 0);
+    chains_drop(ROOT, RIGHTS_ITEM_MAX, RIGHTS_ITEM_MAX, RIGHTS_RIGHT_MAX, 7);
+    loans_loan(loans_due[1], 0);
+    grants_grant(ROOT, ROOT, 1, 0, 0);
+    returned("chains withdraw, the least", rights_chains_withdraw(UNIT, ROOT, ROOT, ROOT, 1), 0);
 }
 
 /* ---- which engine this is, and the texts */
@@ -716,6 +753,7 @@ int main(void)
     lenders_left();
     lenders_endings();
     lenders_full();
+    lenders_limits();
     engine();
     texts();
     printf("C calls: %u compared, %u differ\n", compared, differences);

@@ -199,9 +199,9 @@ pub const BIASES: [Bias; 15] = [
     Bias {
         name: "lenders withdrawn",
         items: 4,
-        shares: [3, 1, 18, 1, 16, 16, 30, 10, 18],
+        shares: [3, 1, 22, 1, 12, 20, 30, 10, 16],
         dated: 50,
-        on_key: 75,
+        on_key: 65,
         held: 95,
         lenders: 85,
         length: 60,
@@ -297,14 +297,24 @@ impl Generator {
         }
     }
 
-    /// The grant, or at times that of one who lost it.
+    /// The grant, or at times that of one who lost it or who has lent, then often at depth 0.
     fn allow(&mut self, journal: &Journal, grant: Grant) -> Command {
-        let back = self.withdrawn.filter(|_| self.random.percent(self.bias.lenders / 3));
-        let Grant { item: on, right, person: to, .. } = back.unwrap_or(grant);
-        Command::Allow { by: self.editor(journal, on), to, on, right, depth: grant.depth }
+        let aimed = self.bias.lenders > 0 && self.random.percent(self.bias.lenders / 2);
+        let to_lender = if aimed { self.lost_or_lent(journal) } else { None };
+        let Grant { item: on, right, person: to, .. } = to_lender.unwrap_or(grant);
+        let depth = if aimed && self.random.percent(35) { 0 } else { grant.depth };
+        Command::Allow { by: self.editor(journal, on), to, on, right, depth }
     }
 
-    /// The grant of one who has lent, at a depth that stands if there is one: where the bias has such.
+    fn lost_or_lent(&mut self, journal: &Journal) -> Option<Grant> {
+        if self.random.percent(60) {
+            return self.withdrawn;
+        }
+        let Loan { lender: person, item, right, depth, .. } = self.standing(journal);
+        Some(Grant { item, right, person, depth })
+    }
+
+    /// The grant of one who has lent, often at the greatest depth that stands: where the bias has such.
     fn of_lender(&mut self, journal: &Journal) -> Option<Grant> {
         if self.bias.lenders == 0 || !self.random.percent(self.bias.lenders) {
             return None;
@@ -314,7 +324,9 @@ impl Generator {
         let holder = journal.loans.range(any..).chain(&journal.loans).find(held).copied();
         let aimed = holder.filter(|_| self.random.percent(75)).unwrap_or(any);
         let Loan { lender: person, item, right, depth, .. } = aimed;
-        let depth = journal.depths(person, item, right).next().unwrap_or(depth);
+        let least = self.random.percent(30);
+        let mut depths = journal.depths(person, item, right);
+        let depth = if least { depths.next() } else { depths.last() }.unwrap_or(depth);
         self.withdrawn = Some(Grant { item, right, person, depth });
         self.withdrawn
     }

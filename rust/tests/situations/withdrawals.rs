@@ -313,7 +313,7 @@ pub const ENDS: [Situation; 25] = [
 ];
 
 /// One that ends none, or is refused; and what follows where some have ended.
-pub const OTHERS: [Situation; 15] = [
+pub const OTHERS: [Situation; 16] = [
     ("withdraw of a lender without a grant there", |m| {
         m.withdrawal(0, |w| w.depth.is_none() && w.depths.is_empty() && w.lends())
     }),
@@ -328,6 +328,10 @@ pub const OTHERS: [Situation; 15] = [
         m.withdrawal(0, |w| {
             w.depth.is_some_and(|d| w.depths.contains(&d)) && !w.last() && w.lends()
         })
+    }),
+    ("drop that leaves a lender depth 0 alone", |m| {
+        let left = |w: &Withdrawal, depth| w.depths == [0, depth];
+        m.withdrawal(0, |w| w.depth.is_some_and(|depth| left(w, depth)) && w.lends())
     }),
     ("last grant of a lender of other rights on the item alone", |m| {
         let other = |w: &Withdrawal| w.stays(|l| l.lender == w.to && l.item == w.on);
