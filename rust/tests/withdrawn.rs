@@ -455,7 +455,7 @@ fn no_image() {
         |unit| unit.loans[0] += 256 * 65_536,
         |unit| unit.loans.swap(1, 2),
         |unit| unit.loans[1024] = 1,
-        |unit| unit.loans[1] = unit.loans[1] & !(7 << 9),
+        |unit| unit.loans[1] &= !(7 << 9),
     ];
     for damage in damages {
         let mut unit = good.clone();

@@ -379,12 +379,12 @@ impl Generator {
     /// A grant that stands, or one of right 0 now and then, or any.
     fn withdraw(&mut self, journal: &Journal) -> Command {
         let of_lender = self.of_lender(journal);
-        let grant = of_lender.unwrap_or_else(|| self.to_withdraw(journal));
+        let grant = of_lender.unwrap_or_else(|| self.grant_to_withdraw(journal));
         let by = self.editor(journal, grant.item);
         Command::Withdraw { by, to: grant.person, on: grant.item, right: grant.right }
     }
 
-    fn to_withdraw(&mut self, journal: &Journal) -> Grant {
+    fn grant_to_withdraw(&mut self, journal: &Journal) -> Grant {
         let (on, right) = self.key();
         let any = Grant { item: on, right, person: self.item(), depth: 0 };
         let standing = journal.grants.range(any..).next().copied();
@@ -396,7 +396,7 @@ impl Generator {
     /// refused.
     fn drop(&mut self, journal: &Journal) -> Command {
         let of_lender = self.of_lender(journal);
-        let grant = of_lender.unwrap_or_else(|| self.to_drop(journal));
+        let grant = of_lender.unwrap_or_else(|| self.grant_to_drop(journal));
         let depth = if self.random.percent(80) { grant.depth } else { self.number(8) };
         self.dropped = Some(Grant { depth, ..grant });
         let own = self.random.percent(15) && journal.granted(grant.person, grant.item, 0);
@@ -407,7 +407,7 @@ impl Generator {
         Command::Drop { by, to: grant.person, on: grant.item, right: grant.right, depth }
     }
 
-    fn to_drop(&mut self, journal: &Journal) -> Grant {
+    fn grant_to_drop(&mut self, journal: &Journal) -> Grant {
         let (on, right) = self.key();
         let any = Grant { item: on, right, person: self.item(), depth: self.depth() };
         let standing = journal.grants.range(any..).next().copied();

@@ -128,8 +128,28 @@ impl Closed {
     }
 
     fn names(&self, item: u32) -> bool {
-        let loans = self.loans.iter().chain(&self.below);
-        loans.clone().any(|loan| [loan.lender, loan.item, loan.borrower].contains(&item))
+        let mut loans = self.loans.iter().chain(&self.below);
+        loans.any(|loan| [loan.lender, loan.item, loan.borrower].contains(&item))
+    }
+
+    /// The lender has the right again, and with the loans that have ended somebody else would.
+    fn clean(&self, after: &Journal, on: u32, right: u32) -> bool {
+        let mut standing = after.clone();
+        standing.loans.extend(&self.loans);
+        let (now, then) = (after.best(on, right), standing.best(on, right));
+        let mut others = (0..64).filter(|&who| who != self.lender as usize);
+        let closed = |who: usize| now[who].is_none() && then[who].is_some();
+        after.granted(self.lender, on, right) && others.any(closed)
+    }
+
+    /// One of those below has the right after the command, and had it not before.
+    fn again(&self, before: &Journal, after: &Journal, on: u32, right: u32) -> bool {
+        let (had, has) = (before.best(on, right), after.best(on, right));
+        let carries = |loan: &&Loan| after.loans.contains(loan) && loan.carries_in(after.shift);
+        let mut below = self.below.iter().filter(carries);
+        below.any(|loan| {
+            had[loan.borrower as usize].is_none() && has[loan.lender as usize] > Some(0)
+        })
     }
 }
 
@@ -197,28 +217,6 @@ impl Memory {
             Command::Shift { .. } => self.freed &= !moment.owed.freed,
             _ => (),
         }
-    }
-}
-
-impl Closed {
-    /// The lender has the right again, and with the loans that have ended somebody else would.
-    fn clean(&self, after: &Journal, on: u32, right: u32) -> bool {
-        let mut standing = after.clone();
-        standing.loans.extend(&self.loans);
-        let (now, then) = (after.best(on, right), standing.best(on, right));
-        let others = (0..64).filter(|&who| who != self.lender as usize);
-        let closed = |who: usize| now[who].is_none() && then[who].is_some();
-        after.granted(self.lender, on, right) && others.into_iter().any(closed)
-    }
-
-    /// One of those below has the right after the command, and had it not before.
-    fn again(&self, before: &Journal, after: &Journal, on: u32, right: u32) -> bool {
-        let (had, has) = (before.best(on, right), after.best(on, right));
-        let carries = |loan: &&Loan| after.loans.contains(loan) && loan.carries_in(after.shift);
-        let mut below = self.below.iter().filter(carries);
-        below.any(|loan| {
-            had[loan.borrower as usize].is_none() && has[loan.lender as usize] > Some(0)
-        })
     }
 }
 
