@@ -27,11 +27,13 @@ impl<'a> Dropped<'a> {
             return None;
         };
         let grant = Grant { item: on, right, person: to, depth };
-        let depths = journal.depths(to, on, right).collect();
+        let depths: Vec<u32> = journal.depths(to, on, right).collect();
         let best = (number == 0 && journal.grants.contains(&grant)).then(|| {
             let mut key = key_of(journal, on, right);
             let before = key.best(on, right);
             key.grants.remove(&grant);
+            // With the last depth the person's loans there end.
+            key.loans.retain(|loan| loan.lender != to || depths != [depth]);
             (before, key.best(on, right))
         });
         Some(Self { journal, by, to, on, right, depth, depths, best })
