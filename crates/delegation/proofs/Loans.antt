@@ -3,15 +3,16 @@ use mathlib.Core.Path.{_≡_, refl, sym, ap, _∙_, ap₂}
 use mathlib.Core.Bool.{Bool, true, false, not, _&&_, _||_, cond, false≢true}
 use mathlib.Core.List.{List, [], _∷_, _++_}
 use Prim.Native.Nat.{ℕ, zero, suc, _+_, _-_, _*_, _/_, _%_, _≤_, _<_}
+use native.Mathlib.Nat.{div-div-eq-div-mul}
 use native.Mathlib.Omega.{arith}
 use borrow.Author.Tests.{eqb-true, eq-eqb, ne-eqb, leb-true, leb-false, le-leb, lt-leb, not-true}
 use lib.ListN.{length, getD, drop, replicate, length-append, length-replicate, take, length-drop, take-append-drop}
 use lib.Seq.{take-at, drop-at, length-take-le}
 use lib.Dec.{eqb, leb}
 use Rattle.bits.specs.Sets.{any, all, keep, add}
-use Rattle.model.specs.Commands.{mostLoans}
+use Rattle.model.specs.Commands.{items, rightDepth, mostLoans}
 use Rattle.model.specs.Journal.{Loan, loan, sameLoan, isFrom, loanNames, carries}
-use Rattle.delegation.specs.Loans.{lastShift, lender, loanItem, loanRight, borrower, loanDepth, wordNames, wordFrom, wordOf, loanOf, rising, insert, loanWords, headerOf, headerWord, recounted, movedTo, headerIn, loansImage, loansWith, loansKept, loansAt, used, wordGood, loansInOrder, countOf, shiftIn}
+use Rattle.delegation.specs.Loans.{lastShift, lender, loanItem, loanRight, borrower, loanDepth, wordNames, wordFrom, keyOf, keyFor, wordOf, loanOf, rising, insert, loanWords, headerOf, headerWord, recounted, movedTo, headerIn, loansImage, loansWith, loansKept, loansAt, used, wordGood, loansInOrder, countOf, shiftIn}
 use Rattle.delegation.specs.declared.loan.Header.{Header}
 use Rattle.bits.proofs.Sets.{iff, by-cases, fst, snd, both, or-left, or-right, any-cong, all-mono, all-keep, length-keep}
 use Rattle.model.proofs.Invariant.{same-loan, loan-self}
@@ -45,6 +46,40 @@ word-names i l h = let f = word-fields l h in rw (f .0, f .1, f .3)
 
 pub word-from : (p o r : ℕ) (l : Loan) → rangedLoan l ≡ true → wordFrom p o r (wordOf l) ≡ isFrom p o r l
 word-from p o r l h = let f = word-fields l h in rw (f .0, f .1, f .2)
+
+-- lender, item and right lie side by side in a word: one number tells item and right, and one all three
+pub key-parts : (w : ℕ) → keyOf w ≡ 8 * loanItem w + loanRight w
+key-parts w = let z = div-div-eq-div-mul w 512 8 in omega arith
+
+side : (w : ℕ) → w / 512 % 32768 ≡ lender w % 64 * 512 + keyFor (loanItem w) (loanRight w)
+side w =
+    let d : w / 262144 ≡ w / 512 / 512 = omega arith in
+    high (w / 512) (w / 262144) d ∙ ap (λ (n : ℕ). lender w % 64 * 512 + n) (key-parts w ∙ cut (loanItem w) (loanRight w) (omega arith) (omega arith))
+  where
+    high : (x y : ℕ) → y ≡ x / 512 → x % 32768 ≡ y % 64 % 64 * 512 + x % 512
+    high x y e = omega arith
+
+    cut : (o r : ℕ) → o ≤ 63 → r ≤ 7 → 8 * o + r ≡ keyFor o r
+    cut o r h k = omega arith
+
+pub from-made : (p o r w : ℕ) → (items p o && rightDepth r 0) && eqb (w / 512 % 32768) (p % 64 * 512 + keyFor o r) ≡ wordFrom p o r w
+from-made p o r w = iff _ _ to back
+  where
+    to : (items p o && rightDepth r 0) && eqb (w / 512 % 32768) (p % 64 * 512 + keyFor o r) ≡ true → wordFrom p o r w ≡ true
+    to e =
+        let a : p ≤ 63 = leb-true p 63 (search (fst, snd)) in
+        let b : o ≤ 63 = leb-true o 63 (search (fst, snd)) in
+        let c : r ≤ 7 = leb-true r 7 (search (fst, snd)) in
+        let q : w / 512 % 32768 ≡ p % 64 * 512 + (8 * (o % 64) + r % 8) = eqb-true _ _ (snd (items p o && rightDepth r 0) _ e) in
+        both (both (eq-eqb (lender w) p (omega arith)) (eq-eqb (loanItem w) o (omega arith))) (eq-eqb (loanRight w) r (omega arith))
+
+    back : wordFrom p o r w ≡ true → (items p o && rightDepth r 0) && eqb (w / 512 % 32768) (p % 64 * 512 + keyFor o r) ≡ true
+    back e =
+        let a : lender w ≡ p = eqb-true _ _ (search (fst, snd)) in
+        let b : loanItem w ≡ o = eqb-true _ _ (search (fst, snd)) in
+        let c : loanRight w ≡ r = eqb-true _ _ (search (fst, snd)) in
+        both (both (both (le-leb p 63 (omega arith)) (le-leb o 63 (omega arith))) (both (le-leb r 7 (omega arith)) refl))
+        (eq-eqb (w / 512 % 32768) (p % 64 * 512 + keyFor o r) (side w ∙ (λ i. a i % 64 * 512 + keyFor (b i) (c i))))
 
 pub wordOf-lt : (l : Loan) → rangedLoan l ≡ true → wordOf l < 4294967296
 unfolding wordOf
