@@ -306,6 +306,7 @@ pub fn allow_set(
     )
 }
 
+// Every depth that the person has there; where there was one, the loans that the person made there end too.
 pub fn withdraw(
     grants: &mut [u8],
     loans: &mut [u32],
@@ -320,7 +321,7 @@ pub fn withdraw(
     offer(grants, loans, Command::Withdraw { by, to, on, right })
 }
 
-// One depth alone; withdraw is this for each of them.
+// One depth alone, and with the last the loans that the person made there; withdraw is this for each depth.
 pub fn drop(
     grants: &mut [u8],
     loans: &mut [u32],

@@ -1,22 +1,24 @@
 -- What becomes of the journal's loans by a withdraw or drop. A loan of the person's on the item and right ends exactly where the person
 -- had a grant there and has none now; every other is kept (`kept-loan`). No command but a lend of that person's there brings such a loan
--- (`none-step`), so none stands until then. Grants and loans are fewer and the shift is the same, so each chain was one before.
+-- (`none-step`), so none stands until then. Grants and loans are fewer and the shift is the same, so each chain was one before. Where no loan of a
+-- person's stands there, a new grant to that person makes no chain that goes on (`opens-to-one`).
 use mathlib.Core.Path.{_≡_, refl, sym, ap, _∙_, subst}
 use mathlib.Core.Bool.{Bool, true, false, not, _&&_, cond, false≢true, and-true, and-false}
 use mathlib.Core.List.{List, [], _∷_, map}
 use Prim.Native.Nat.{ℕ}
-use borrow.Author.Tests.{eqb-true, leb-true}
+use borrow.Author.Tests.{eqb-true, eq-eqb}
 use lib.Dec.{eqb, leb}
 use Rattle.bits.specs.Sets.{any, keep}
 use Rattle.model.specs.declared.Command.{Command}
 use Rattle.model.specs.declared.Command.the-variants.{Create, Delete, Allow, Withdraw, Lend, Recall, Shift, AllowSet, Drop}
 use Rattle.model.specs.Commands.{depths, membersOf}
 use Rattle.model.specs.Journal.{Grant, Loan, Journal, grant, loan, sameGrant, sameLoan, isTo, isFrom, loanNames, lives, hasGrant, standing, standingLoan, LoanCarries, answered, lessGrant, lastEnds, dropped, droppedAll, ofEachDepth, apply, step, lendsFrom}
-use Rattle.model.specs.Chain.{JournalChain}
+use Rattle.model.specs.Journal as journal
+use Rattle.model.specs.Chain.{granted, lent, JournalChain}
 use Rattle.model.specs.AllowSet.{finally}
-use Rattle.model.specs.Ending.{holding, StaysClean, EndsLoans, GainsNobody}
+use Rattle.model.specs.Ending.{holding, StaysClean, EndsLoans, GainsNobody, OpensToOne}
 use Rattle.model.specs.Invariant.{ranged, rangedLoan, sound, Inv}
-use Rattle.bits.proofs.Sets.{iff, by-cases, fst, snd, both, neither, find, found, all-true, keep-cong, any-kept, any-fewer, any-less, any-same, any-add, eqb-self}
+use Rattle.bits.proofs.Sets.{iff, by-cases, fst, snd, both, either, neither, find, found, all-true, keep-cong, any-kept, any-fewer, any-less, any-same, any-add, eqb-self}
 use Rattle.model.proofs.Commands.{depth-in, small}
 use Rattle.model.proofs.Chain.{chain-map}
 use Rattle.model.proofs.AllowSet.{loans-granted}
@@ -125,6 +127,19 @@ module _ (j : Journal) (v : Inv j) (by to on right : ℕ) where
       ∙ ap (λ b. (hasGrant j to on right && not b) && isFrom to on right l) nothing-held
       ∙ ap (λ b. b && isFrom to on right l) (and-true (hasGrant j to on right))))
 
+  none-kept : (b : Bool) → b ≡ true → any (isFrom to on right) (keep (λ l. not (b && isFrom to on right l)) (j .loans)) ≡ false
+  none-kept b t =
+      any-kept (isFrom to on right) (λ l. not (b && isFrom to on right l)) (λ l. true) false (j .loans) (all-true (j .loans))
+      (λ l k e. ap not (both t e))
+      ∙ and-false (any (isFrom to on right) (j .loans))
+
+  -- a person with a grant there has no loan left there
+  none-left : answered j (Withdraw by to on right) ≡ 0 → holding answered step standing standingLoan j to on right ≡ true
+      → any (isFrom to on right) (step j (Withdraw by to on right) .loans) ≡ false
+  none-left e h =
+      ap (λ (i : Journal). any (isFrom to on right) (i .loans)) (stepped j (Withdraw by to on right) e)
+      ∙ ap (any (isFrom to on right)) withdrawn-loans ∙ none-kept _ (sym (holding-is j v to on right) ∙ h)
+
   pub journal-ends-loans : EndsLoans answered step standing standingLoan j by to on right
   journal-ends-loans = record {
     withdraw =
@@ -132,22 +147,13 @@ module _ (j : Journal) (v : Inv j) (by to on right : ℕ) where
         ∙ ap (any (sameLoan l)) withdrawn-loans ∙ kept-loan _ l (j .loans)
         ∙ ap (λ b. standingLoan j l && not (b && isFrom to on right l)) (sym (holding-is j v to on right));
     drop = dropped-loan;
-    withdraw-clean =
-        λ e h. stays-clean (step j (Withdraw by to on right)) to on right
-        (ap (λ (i : Journal). any (isFrom to on right) (i .loans)) (stepped j (Withdraw by to on right) e)
-        ∙ ap (any (isFrom to on right)) withdrawn-loans ∙ none-kept _ (sym (holding-is j v to on right) ∙ h));
+    withdraw-clean = λ e h. stays-clean (step j (Withdraw by to on right)) to on right (none-left e h);
     drop-clean =
         λ depth e h n. stays-clean (step j (Drop by to on right depth)) to on right
         (ap (λ (i : Journal). any (isFrom to on right) (i .loans)) (stepped j (Drop by to on right depth) e)
         ∙ none-kept _ (both (sym (holding-is j v to on right) ∙ h) (ap not (sym (after depth e) ∙ n))));
   }
     where
-      none-kept : (b : Bool) → b ≡ true → any (isFrom to on right) (keep (λ l. not (b && isFrom to on right l)) (j .loans)) ≡ false
-      none-kept b t =
-          any-kept (isFrom to on right) (λ l. not (b && isFrom to on right l)) (λ l. true) false (j .loans) (all-true (j .loans))
-          (λ l k e. ap not (both t e))
-          ∙ and-false (any (isFrom to on right) (j .loans))
-
       after : (depth : ℕ) → answered j (Drop by to on right depth) ≡ 0
           → holding answered step standing standingLoan (step j (Drop by to on right depth)) to on right
           ≡ any (isTo to on right) (lessGrant (j .grants) (grant to on right depth))
@@ -188,3 +194,28 @@ journal-gains-nobody j = record {
         go : (b : Bool) → JournalChain (cond b (apply j c) j) o r ps p a → JournalChain j o r ps p a
         go true x = f x
         go false x = x
+
+-- ---- a new allow
+-- a chain that goes on from p has a loan of p's; one that does not ends with p, or needs no new grant
+opens-to-one : (j : Journal) (p o r d : ℕ) → any (isFrom p o r) (j .loans) ≡ false → OpensToOne j p o r d
+opens-to-one j p o r d n ps q a c other = go c other
+  where
+    theirs : (l : Loan) → LoanCarries j o r l → l .lender ≡ p → any (isFrom p o r) (j .loans) ≡ true
+    theirs l s e =
+        any-same (isFrom p o r) sameLoan same-loan l (j .loans) (s .0)
+        (both (both (eq-eqb (l .lender) p e) (eq-eqb (l .item) o (s .1))) (eq-eqb (l .right) r (s .2)))
+
+    go : {ps : List ℕ} {q a : ℕ} → JournalChain (journal.granted j (grant p o r d)) o r ps q a → (q ≡ p → ⊥) → JournalChain j o r ps q a
+    go (granted {p = q} {e} g) other =
+        granted
+        (either _ _ (sym (any-add (sameGrant (grant q o r e)) sameGrant same-grant (grant p o r d) (j .grants)) ∙ g)
+        (λ t. absurd (other (ap (λ (x : Grant). x .person) (same-grant (grant q o r e) (grant p o r d) t)))) (λ t. t))
+    go (lent l s c) other = lent l s (go c (λ e. absurd (false≢true (sym n ∙ theirs l s e))))
+
+pub allow-after-withdraw : (j : Journal) → Inv j → (by to on right : ℕ) → answered j (Withdraw by to on right) ≡ 0
+    → holding answered step standing standingLoan j to on right ≡ true → (cs : List Command) → any (lendsFrom to on right) cs ≡ false
+    → (d : ℕ) → OpensToOne (finally answered step (step j (Withdraw by to on right)) cs) to on right d
+allow-after-withdraw j v by to on right e h cs n d =
+    opens-to-one (finally answered step (step j (Withdraw by to on right)) cs) to on right d
+    (holds-on answered step (λ i. any (isFrom to on right) (i .loans) ≡ false) (lendsFrom to on right) (none-step to on right) cs
+    (step j (Withdraw by to on right)) n (none-left j v by to on right e h))

@@ -1,6 +1,6 @@
 -- What becomes of loans where grants end, of the journal and of the chain unit: 'a right given back starts clean. From now on, when a
 -- person's last grant on an item and right ends by withdraw or drop, the loans that person made there end too; loans further down stay.'
--- The theorems are `journal-ends-loans` and `journal-gains-nobody`, `chain-ends-loans` and `chain-gains-nobody`.
+-- The theorems are `journal-ends-loans`, `journal-gains-nobody` and `allow-after-withdraw`, `chain-ends-loans` and `chain-gains-nobody`.
 use mathlib.Core.Path.{_≡_}
 use mathlib.Core.Bool.{Bool, true, false, not, _&&_}
 use mathlib.Core.List.{List}
@@ -9,9 +9,10 @@ use Rattle.bits.specs.Sets.{any}
 use Rattle.model.specs.declared.Command.{Command}
 use Rattle.model.specs.declared.Command.the-variants.{Withdraw, Drop}
 use Rattle.model.specs.Commands.{depths}
-use Rattle.model.specs.Journal.{Grant, Loan, grant, isFrom, lendsFrom}
+use Rattle.model.specs.Journal.{Grant, Loan, Journal, grant, isFrom, granted, lendsFrom}
 use Rattle.model.specs.Invariant.{rangedLoan}
 use Rattle.model.specs.AllowSet.{finally}
+use Rattle.model.specs.Chain.{JournalChain}
 
 -- anything that answers commands: the number of a command in a state, the state after it, and the grants and loans that stand in it
 module _ {S : Type 0} (answer : S → Command → ℕ) (next : S → Command → S) (stands : S → Grant → Bool) (lent : S → Loan → Bool) where
@@ -32,7 +33,8 @@ module _ {S : Type 0} (answer : S → Command → ℕ) (next : S → Command →
     -- the same of a drop, where it leaves that person no grant there
     pub drop : (depth : ℕ) → answer s (Drop by to on right depth) ≡ 0 → (l : Loan) → rangedLoan l ≡ true
         → lent (next s (Drop by to on right depth)) l
-        ≡ lent s l && not ((holding s to on right && not (holding (next s (Drop by to on right depth)) to on right)) && isFrom to on right l)
+        ≡ lent s l
+        && not ((holding s to on right && not (holding (next s (Drop by to on right depth)) to on right)) && isFrom to on right l)
     -- 'a right given back starts clean', whatever happens later
     pub withdraw-clean : answer s (Withdraw by to on right) ≡ 0 → holding s to on right ≡ true
         → StaysClean (next s (Withdraw by to on right)) to on right
@@ -45,3 +47,9 @@ module _ {S : Type 0} (answer : S → Command → ℕ) (next : S → Command →
 pub record GainsNobody {S : Type 0} (next : S → Command → S) (C : S → ℕ → ℕ → List ℕ → ℕ → ℕ → Type 0) (s : S) : Type 0 where
   pub withdraw : (by to on right o r : ℕ) {ps : List ℕ} {p a : ℕ} → C (next s (Withdraw by to on right)) o r ps p a → C s o r ps p a
   pub drop : (by to on right depth o r : ℕ) {ps : List ℕ} {p a : ℕ} → C (next s (Drop by to on right depth)) o r ps p a → C s o r ps p a
+
+-- A new grant to p on o, right r, in journal j opens to p alone: each chain to another was one before. So 'a right given back starts
+-- clean': one new allow brings no loan back
+abbrev pub OpensToOne : Journal → ℕ → ℕ → ℕ → ℕ → Type 0
+OpensToOne j p o r d = (ps : List ℕ) (q a : ℕ) → JournalChain (granted j (grant p o r d)) o r ps q a → (q ≡ p → ⊥)
+    → JournalChain j o r ps q a
