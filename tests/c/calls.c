@@ -232,16 +232,22 @@ static void chains_create(unsigned by, unsigned on)
     returned("chains create", rights_chains_create(UNIT, by, on), 0);
 }
 
-static void chains_grants(void)
+/* A fresh unit, whatever its buffers held, and three persons. */
+static void chains_start(void)
 {
-    memset(grants, 0xa5, sizeof grants);
-    memset(loans, 0xa5, sizeof loans);
     grants_item(ROOT, 1);
     grants_grant(ROOT, ROOT, 0, 0, 1);
     returned("chains fresh", rights_chains_fresh(UNIT), 0);
     chains_create(ROOT, OWNER);
     chains_create(ROOT, HOLDER);
     chains_create(ROOT, BORROWER);
+}
+
+static void chains_grants(void)
+{
+    memset(grants, 0xa5, sizeof grants);
+    memset(loans, 0xa5, sizeof loans);
+    chains_start();
     chains_create(OWNER, DRAWER);
     grants_grant(HOLDER, DRAWER, RIGHT, DEPTH, 1);
     returned("chains allow", rights_chains_allow(UNIT, OWNER, HOLDER, DRAWER, RIGHT, DEPTH), 0);
@@ -542,12 +548,7 @@ static void lenders_grants(void)
 {
     memset(grants_due, 0, sizeof grants_due);
     memset(loans_due, 0, sizeof loans_due);
-    grants_item(ROOT, 1);
-    grants_grant(ROOT, ROOT, 0, 0, 1);
-    returned("chains fresh", rights_chains_fresh(UNIT), 0);
-    chains_create(ROOT, OWNER);
-    chains_create(ROOT, HOLDER);
-    chains_create(ROOT, BORROWER);
+    chains_start();
     chains_create(ROOT, DRAWER);
     grants_grant(OWNER, DRAWER, 0, 4, 1);
     returned("chains allow, edit", rights_chains_allow(UNIT, ROOT, OWNER, DRAWER, 0, 4), 0);
