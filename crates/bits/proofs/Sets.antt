@@ -1,6 +1,6 @@
 -- Laws of the tests on lists, as equations between Bools.
 use mathlib.Core.Path.{_≡_, refl, sym, ap, ap₂, _∙_}
-use mathlib.Core.Bool.{Bool, true, false, _&&_, _||_, cond, false≢true}
+use mathlib.Core.Bool.{Bool, true, false, _&&_, _||_, cond, false≢true, and-false}
 use mathlib.Core.List.{List, [], _∷_, map}
 use Prim.Native.Nat.{ℕ, suc, _≤_}
 use native.Mathlib.Omega.{arith}
@@ -243,6 +243,10 @@ module _ {A : Type 0} where
 
   pub any-less : (p f : A → Bool) (xs : List A) → any p xs ≡ false → any p (keep f xs) ≡ false
   any-less p f xs h = by-cases (any p (keep f xs)) (λ t. absurd (false≢true (sym h ∙ any-fewer p f xs t))) (λ t. t)
+
+  -- none is left where the test keeps none of them
+  pub any-gone : (p f : A → Bool) (xs : List A) → ((x : A) → p x ≡ true → f x ≡ false) → any p (keep f xs) ≡ false
+  any-gone p f xs h = any-kept p f (λ x. true) false xs (all-true xs) (λ x k e. h x e) ∙ and-false (any p xs)
 
   pub length-keep : (f : A → Bool) (xs : List A) → length (keep f xs) ≤ length xs
   unfolding keep

@@ -84,7 +84,7 @@ after-withdraw s p o r v = grants.held-withdrawn grantBytes bytes-whole (s .gran
 
 -- ---- images in order
 module _ (s : Images) (long : length (s .loans) ≡ loanWords) (order : chainInOrder s ≡ true) where
-  loans-in-order : loansInOrder (liveIn grantBytes (s .grants)) (s .loans) ≡ true
+  pub loans-in-order : loansInOrder (liveIn grantBytes (s .grants)) (s .loans) ≡ true
   loans-in-order = snd (inOrder grantBytes (s .grants)) (loansInOrder (liveIn grantBytes (s .grants)) (s .loans)) order
 
   -- what is left is told by the grants that are

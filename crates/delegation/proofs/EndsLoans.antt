@@ -3,7 +3,7 @@
 -- lend of a person's on an item and right brings a word of that person's there (`none-after`). The words and the grant bits are fewer and
 -- the shift is the same, so each chain was one before, and what a check finds was found before with no smaller depth.
 use mathlib.Core.Path.{_≡_, refl, sym, ap, ap₂, _∙_, subst}
-use mathlib.Core.Bool.{Bool, true, false, not, _&&_, _||_, cond, false≢true, and-false}
+use mathlib.Core.Bool.{Bool, true, false, not, _&&_, _||_, cond, false≢true}
 use mathlib.Core.List.{List, [], _∷_}
 use Prim.Native.Nat.{ℕ, _≤_, _<_}
 use native.Mathlib.Nat.{le-refl}
@@ -24,7 +24,7 @@ use Rattle.layouts.specs.Layouts.{grantBytes, liveIn, grantBit, held, inOrder, 
 use Rattle.delegation.specs.Loans.{lender, borrower, loanDepth, lastShift, wordOf, wordFrom, wordNames, loanWords, shiftIn, used, loansKept, loansInOrder}
 use Rattle.delegation.specs.Images.{Images, images, standingIn, WordCarries, ImageChain}
 use Rattle.delegation.specs.ChainUnit.{chainUnit, chainStands, chainLent, chainGuard, chainSized, chainInOrder, chainFacts, chainDropped, chainWithdrawn, chainAfter, chainCheckNumber, chainFound, NobodyGains}
-use Rattle.bits.proofs.Sets.{by-cases, fst, snd, both, all-true, any-cong, any-kept, any-fewer, any-less, any-same}
+use Rattle.bits.proofs.Sets.{by-cases, fst, snd, both, all-true, any-cong, any-kept, any-fewer, any-less, any-gone, any-same}
 use Rattle.model.proofs.Commands.{small}
 use Rattle.model.proofs.Chain.{chain-map}
 use Rattle.model.proofs.Invariant.{passed, accepted}
@@ -34,7 +34,7 @@ use Rattle.layouts.proofs.Drops.{bits-dropped, withdrawn-eight}
 use Rattle.delegation.proofs.Rising.{any-insert}
 use Rattle.delegation.proofs.Loans.{word-from, kept-used, kept-shift, with-used, at-used}
 use Rattle.delegation.proofs.Rules.{check-meets}
-use Rattle.delegation.proofs.Dropped.{withdrawn-is, withdrawn-chain}
+use Rattle.delegation.proofs.Dropped.{loans-in-order, withdrawn-is, withdrawn-chain}
 use Rattle.delegation.proofs.Drop.{readable, stepped, within-of, withdraw-within}
 
 -- ---- what stands of a grant and of a loan
@@ -46,17 +46,14 @@ holding-is x p o r w =
 
 -- the loans image of images in order
 module _ (s : Images) (long : length (s .loans) ≡ loanWords) (order : chainInOrder s ≡ true) where
-  loans-order : loansInOrder (liveIn grantBytes (s .grants)) (s .loans) ≡ true
-  loans-order = snd (inOrder grantBytes (s .grants)) (loansInOrder (liveIn grantBytes (s .grants)) (s .loans)) order
-
   -- where loans were kept by a test
   lent-kept : (q : ℕ → Bool) (w : ℕ) → any (eqb w) (used (loansKept q (s .loans))) ≡ any (eqb w) (used (s .loans)) && q w
   lent-kept q w =
-      ap (any (eqb w)) (kept-used _ (s .loans) long loans-order q)
+      ap (any (eqb w)) (kept-used _ (s .loans) long (loans-in-order s long order) q)
       ∙ any-kept (eqb w) q (λ x. true) (q w) (used (s .loans)) (all-true (used (s .loans))) (λ x k e. ap q (sym (eqb-true w x e)))
 
   none-kept : (p q : ℕ → Bool) → any p (used (s .loans)) ≡ false → any p (used (loansKept q (s .loans))) ≡ false
-  none-kept p q n = ap (any p) (kept-used _ (s .loans) long loans-order q) ∙ any-less p q (used (s .loans)) n
+  none-kept p q n = ap (any p) (kept-used _ (s .loans) long (loans-in-order s long order) q) ∙ any-less p q (used (s .loans)) n
 
   -- fewer grants and fewer loans make no new chain
   fewer-chains : (y : List ℕ) (q : ℕ → Bool) → ((g : Grant) → standingIn y g ≡ true → standingIn (s .grants) g ≡ true)
@@ -66,10 +63,10 @@ module _ (s : Images) (long : length (s .loans) ≡ loanWords) (order : chainInO
       (λ w t. (
         w,
         (
-          any-fewer (eqb w) q (used (s .loans)) (ap (any (eqb w)) (sym (kept-used _ (s .loans) long loans-order q)) ∙ t .0),
+          any-fewer (eqb w) q (used (s .loans)) (ap (any (eqb w)) (sym (kept-used _ (s .loans) long (loans-in-order s long order) q)) ∙ t .0),
           t .1,
           t .2,
-          ap (λ (n : ℕ). carries n (lastShift w)) (sym (kept-shift _ (s .loans) long loans-order q)) ∙ t .3,
+          ap (λ (n : ℕ). carries n (lastShift w)) (sym (kept-shift _ (s .loans) long (loans-in-order s long order) q)) ∙ t .3,
         ),
         refl,
         refl,
@@ -93,14 +90,14 @@ module _ (p o r : ℕ) where
       let k = readable s _ e in
       let a = argumentsOf (Lend by to on right depth last) in
       let d = accepted (chainFacts s a) a (k .2) in
-      ap (any (wordFrom p o r)) (with-used _ (s .loans) (k .0) (loans-order s (k .0) (k .1)) (wordOf (loanIn a)) (d .full))
+      ap (any (wordFrom p o r)) (with-used _ (s .loans) (k .0) (loans-in-order s (k .0) (k .1)) (wordOf (loanIn a)) (d .full))
       ∙ any-insert (wordFrom p o r) (wordOf (loanIn a)) (used (s .loans))
       ∙ ap₂ (λ (x y : Bool). x || y) (word-from p o r (loanIn a) (d .fits) ∙ h) n
   none-after s (Recall by to on right depth last) e h n =
       let k = readable s _ e in none-kept s (k .0) (k .1) (wordFrom p o r) _ n
   none-after s (Shift by now) e h n =
       let k = readable s _ e in
-      ap (any (wordFrom p o r)) (at-used _ (s .loans) (k .0) (loans-order s (k .0) (k .1)) now) ∙ n
+      ap (any (wordFrom p o r)) (at-used _ (s .loans) (k .0) (loans-in-order s (k .0) (k .1)) now) ∙ n
   none-after s (AllowSet by set on right depth) e h n = n
 
   none-step : (s : Images) (c : Command) → lendsFrom p o r c ≡ false → any (wordFrom p o r) (used (s .loans)) ≡ false
@@ -129,9 +126,8 @@ module _ (s : Images) (by to on right : ℕ) where
   gone : (q : ℕ → Bool) → length (s .loans) ≡ loanWords → chainInOrder s ≡ true
       → ((w : ℕ) → wordFrom to on right w ≡ true → q w ≡ false) → any (wordFrom to on right) (used (loansKept q (s .loans))) ≡ false
   gone q long order f =
-      ap (any (wordFrom to on right)) (kept-used _ (s .loans) long (loans-order s long order) q)
-      ∙ any-kept (wordFrom to on right) q (λ x. true) false (used (s .loans)) (all-true (used (s .loans))) (λ w k e. f w e)
-      ∙ and-false (any (wordFrom to on right) (used (s .loans)))
+      ap (any (wordFrom to on right)) (kept-used _ (s .loans) long (loans-in-order s long order) q)
+      ∙ any-gone (wordFrom to on right) q (used (s .loans)) f
 
   -- an accepted withdraw
   module _ (e : answerOf chainUnit s (Withdraw by to on right) ≡ 0) where

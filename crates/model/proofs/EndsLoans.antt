@@ -3,7 +3,7 @@
 -- (`none-step`), so none stands until then. Grants and loans are fewer and the shift is the same, so each chain was one before. Where no loan of a
 -- person's stands there, a new grant to that person makes no chain that goes on (`opens-to-one`).
 use mathlib.Core.Path.{_≡_, refl, sym, ap, _∙_, subst}
-use mathlib.Core.Bool.{Bool, true, false, not, _&&_, cond, false≢true, and-true, and-false}
+use mathlib.Core.Bool.{Bool, true, false, not, _&&_, cond, false≢true, and-true}
 use mathlib.Core.List.{List, [], _∷_, map}
 use Prim.Native.Nat.{ℕ}
 use borrow.Author.Tests.{eqb-true, eq-eqb}
@@ -18,7 +18,7 @@ use Rattle.model.specs.Chain.{granted, lent, JournalChain}
 use Rattle.model.specs.AllowSet.{finally}
 use Rattle.model.specs.Ending.{holding, StaysClean, EndsLoans, GainsNobody, OpensToOne}
 use Rattle.model.specs.Invariant.{ranged, rangedLoan, sound, Inv}
-use Rattle.bits.proofs.Sets.{iff, by-cases, fst, snd, both, either, neither, find, found, all-true, keep-cong, any-kept, any-fewer, any-less, any-same, any-add, eqb-self}
+use Rattle.bits.proofs.Sets.{iff, by-cases, fst, snd, both, either, neither, find, found, all-true, keep-cong, any-kept, any-fewer, any-less, any-gone, any-same, any-add, eqb-self}
 use Rattle.model.proofs.Commands.{depth-in, small}
 use Rattle.model.proofs.Chain.{chain-map}
 use Rattle.model.proofs.AllowSet.{loans-granted}
@@ -102,9 +102,7 @@ module _ (j : Journal) (v : Inv j) (by to on right : ℕ) where
   left = keep (λ g. not (isTo to on right g)) (j .grants)
 
   nothing-held : any (isTo to on right) left ≡ false
-  nothing-held =
-      any-kept (isTo to on right) (λ g. not (isTo to on right g)) (λ g. true) false (j .grants) (all-true (j .grants)) (λ g k e. ap not e)
-      ∙ and-false (hasGrant j to on right)
+  nothing-held = any-gone (isTo to on right) (λ g. not (isTo to on right g)) (j .grants) (λ g e. ap not e)
 
   other-held : (l : Loan) → isFrom to on right l ≡ false
       → any (isTo (l .lender) (l .item) (l .right)) left ≡ any (isTo (l .lender) (l .item) (l .right)) (j .grants)
@@ -128,10 +126,7 @@ module _ (j : Journal) (v : Inv j) (by to on right : ℕ) where
       ∙ ap (λ b. b && isFrom to on right l) (and-true (hasGrant j to on right))))
 
   none-kept : (b : Bool) → b ≡ true → any (isFrom to on right) (keep (λ l. not (b && isFrom to on right l)) (j .loans)) ≡ false
-  none-kept b t =
-      any-kept (isFrom to on right) (λ l. not (b && isFrom to on right l)) (λ l. true) false (j .loans) (all-true (j .loans))
-      (λ l k e. ap not (both t e))
-      ∙ and-false (any (isFrom to on right) (j .loans))
+  none-kept b t = any-gone (isFrom to on right) (λ l. not (b && isFrom to on right l)) (j .loans) (λ l e. ap not (both t e))
 
   -- a person with a grant there has no loan left there
   none-left : answered j (Withdraw by to on right) ≡ 0 → holding answered step standing standingLoan j to on right ≡ true
