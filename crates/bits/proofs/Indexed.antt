@@ -1,6 +1,6 @@
 -- Laws of lists by index, of the greatest value below a bound, and of tests of every number below a bound.
 use mathlib.Core.Path.{_≡_, refl, sym, ap, ap₂, _∙_, subst}
-use mathlib.Core.List.{List, [], _∷_}
+use mathlib.Core.List.{List, [], _∷_, _++_}
 use mathlib.Core.Bool.{Bool, true, false, not, _&&_, _||_, cond, false≢true, and-assoc, or-and-distrib-right}
 use mathlib.Core.Logic.{_⊎_, ⊎-elim, by-cases}
 use Prim.Native.Nat.{ℕ, zero, suc, _+_, _*_, _≤_, _<_, max}
@@ -10,10 +10,10 @@ use native.Mathlib.Numerals.{add-one}
 use native.Mathlib.Decide.{decLt}
 use lib.Dec.{ltb}
 use borrow.Author.Tests.{lt-ltb, le-ltb}
-use lib.ListN.{length, getD, drop}
-use lib.Seq.{ext-getD, drop-cons}
+use lib.ListN.{length, getD, take, drop}
+use lib.Seq.{ext-getD, drop-cons, take-suc}
 use Rattle.bits.specs.Sets.{any, tabulate, allBelow, most, firstAt, anyBelow, all, keep}
-use Rattle.bits.proofs.Sets.{fst, snd, both, or-left, or-right, either, iff, and-swap}
+use Rattle.bits.proofs.Sets.{fst, snd, both, or-left, or-right, either, iff, and-swap, keep-append}
 
 pub length-tabulate : {A : Type 0} (n : ℕ) (f : ℕ → A) → length (tabulate n f) ≡ n
 unfolding tabulate
@@ -86,6 +86,10 @@ module _ {A : Type 0} (p : A → Bool) (s : List A) (i : ℕ) (d : A) where
   unfolding all
   all-next h = rw (drop-cons s i d, add-one i)
 
+  pub any-next : i < length s → any p (drop i s) ≡ p (getD s i d) || any p (drop (i + 1) s)
+  unfolding any
+  any-next h = rw (drop-cons s i d, add-one i)
+
   pub none-next : i < length s → not (any p (drop i s)) ≡ not (p (getD s i d)) && not (any p (drop (i + 1) s))
   unfolding any
   none-next h = rw (drop-cons s i d, add-one i) (neither (p (getD s i d)) (any p (drop (suc i) s)))
@@ -97,6 +101,11 @@ module _ {A : Type 0} (p : A → Bool) (s : List A) (i : ℕ) (d : A) where
   pub keep-next : i < length s → keep p (drop i s) ≡ cond (p (getD s i d)) (getD s i d ∷ keep p (drop (i + 1) s)) (keep p (drop (i + 1) s))
   unfolding keep
   keep-next h = rw (drop-cons s i d, add-one i)
+
+  -- the list up to place i, with the next element
+  pub keep-more : i < length s → keep p (take (i + 1) s) ≡ keep p (take i s) ++ cond (p (getD s i d)) (getD s i d ∷ []) []
+  unfolding keep
+  keep-more h = rw (add-one i, take-suc s i d h) (keep-append p (take i s) (getD s i d ∷ []))
 
 -- ---- every number below n
 pub below-intro : (n : ℕ) (f : ℕ → Bool) → ((k : ℕ) → k < n → f k ≡ true) → allBelow n f ≡ true

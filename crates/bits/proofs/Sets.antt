@@ -1,7 +1,7 @@
 -- Laws of the tests on lists, as equations between Bools.
 use mathlib.Core.Path.{_≡_, refl, sym, ap, ap₂, _∙_}
 use mathlib.Core.Bool.{Bool, true, false, _&&_, _||_, cond, false≢true, and-false}
-use mathlib.Core.List.{List, [], _∷_, map}
+use mathlib.Core.List.{List, [], _∷_, _++_, map}
 use Prim.Native.Nat.{ℕ, suc, _≤_}
 use native.Mathlib.Omega.{arith}
 use borrow.Author.Tests.{eqb-true, eq-eqb}
@@ -247,6 +247,22 @@ module _ {A : Type 0} where
   -- none is left where the test keeps none of them
   pub any-gone : (p f : A → Bool) (xs : List A) → ((x : A) → p x ≡ true → f x ≡ false) → any p (keep f xs) ≡ false
   any-gone p f xs h = any-kept p f (λ x. true) false xs (all-true xs) (λ x k e. h x e) ∙ and-false (any p xs)
+
+  -- of two lists, one behind the other
+  pub keep-append : (f : A → Bool) (xs ys : List A) → keep f (xs ++ ys) ≡ keep f xs ++ keep f ys
+  unfolding keep
+  keep-append f [] ys = refl
+  keep-append f (x ∷ xs) ys = go (f x) (keep-append f xs ys)
+    where
+      go : (b : Bool) → keep f (xs ++ ys) ≡ keep f xs ++ keep f ys
+          → cond b (x ∷ keep f (xs ++ ys)) (keep f (xs ++ ys)) ≡ cond b (x ∷ keep f xs) (keep f xs) ++ keep f ys
+      go true e = ap (_∷_ x) e
+      go false e = e
+
+  pub all-append : (q : A → Bool) (xs ys : List A) → all q xs ≡ true → all q ys ≡ true → all q (xs ++ ys) ≡ true
+  unfolding all
+  all-append q [] ys h k = k
+  all-append q (x ∷ xs) ys h k = both (fst (q x) (all q xs) h) (all-append q xs ys (snd (q x) (all q xs) h) k)
 
   pub length-keep : (f : A → Bool) (xs : List A) → length (keep f xs) ≤ length xs
   unfolding keep

@@ -14,13 +14,12 @@ use lib.Seq.{take-at, drop-drop}
 use lib.Arith.{digits-div, digits-mod}
 use lib.Dec.{leb, eqb}
 use Rattle.bits.specs.Sets.{all, allBelow}
-use Rattle.bits.proofs.Sets.{by-cases, fst, snd, both}
+use Rattle.bits.proofs.Sets.{by-cases, fst, snd, both, all-append}
 use Rattle.bits.proofs.Indexed.{below-elim, all-next}
 use Rattle.lines.specs.declared.Number.the-variants.{Value, Bad}
 use Rattle.lines.specs.Show.{hexDigit, hexDigits, shownSet}
 use Rattle.lines.specs.Line.{digit, hexadecimal, hexValue, setFrom, setOf, setAt}
 use Rattle.lines.proofs.Line.{drop-next, drop-end, digit-low}
-use Rattle.lines.proofs.Values.{all-append}
 
 -- ---- one digit
 -- the digit of a number below 16 has it for its value, computed for each of them

@@ -9,7 +9,7 @@ use lib.ListN.{length, drop, getD, length-append, List·getD-append}
 use lib.Seq.{drop-drop, drop-append-seam}
 use lib.Dec.{eqb, leb, ltb}
 use Rattle.bits.specs.Sets.{all}
-use Rattle.bits.proofs.Sets.{by-cases, fst, snd, both, either}
+use Rattle.bits.proofs.Sets.{by-cases, fst, snd, both, either, all-append}
 use Rattle.lines.specs.declared.Number.the-variants.{Value, Bad}
 use Rattle.lines.specs.Show.{shown, shownIn}
 use Rattle.lines.specs.Line.{startsWith, digit, digits, valueFrom, valueOf, decimal, numberAt}
@@ -67,11 +67,6 @@ shown-digits (b ∷ ds) a e =
 -- ---- what is shown is a value
 digit-of : (d : ℕ) → d < 10 → digit (48 + d) ≡ true
 digit-of d h = both (le-leb 48 (48 + d) (omega arith)) (le-leb (48 + d) 57 (omega arith))
-
-pub all-append : (f : ℕ → Bool) (a b : List ℕ) → all f a ≡ true → all f b ≡ true → all f (a ++ b) ≡ true
-unfolding all
-all-append f [] b p q = q
-all-append f (x ∷ a) b p q = both (fst (f x) (all f a) p) (all-append f a b (snd (f x) (all f a) p) q)
 
 one-digit : (d : ℕ) → d < 10 → all digit ((48 + d) ∷ []) ≡ true
 unfolding all

@@ -7,18 +7,9 @@ use native.Mathlib.Omega.{arith}
 use native.Mathlib.Nat.{add-zero}
 use native.Mathlib.Numerals.{add-one}
 use lib.ListN.{length, getD, set, take, length-append}
-use lib.Seq.{take-suc, take-suc-set, take-set-le}
+use lib.Seq.{take-suc-set, take-set-le}
 use Rattle.bits.specs.Sets.{keep}
-
-pub keep-append : (t : ℕ → Bool) (xs ys : List ℕ) → keep t (xs ++ ys) ≡ keep t xs ++ keep t ys
-unfolding keep
-keep-append t [] ys = refl
-keep-append t (x ∷ xs) ys = go (t x) (keep-append t xs ys)
-  where
-    go : (b : Bool) → keep t (xs ++ ys) ≡ keep t xs ++ keep t ys
-        → cond b (x ∷ keep t (xs ++ ys)) (keep t (xs ++ ys)) ≡ cond b (x ∷ keep t xs) (keep t xs) ++ keep t ys
-    go true e = ap (_∷_ x) e
-    go false e = e
+use Rattle.bits.proofs.Indexed.{keep-more}
 
 -- two tests that agree on the elements keep the same
 pub keep-same : (s t : ℕ → Bool) (xs : List ℕ) → ((i : ℕ) → i < length xs → s (getD xs i 0) ≡ t (getD xs i 0)) → keep s xs ≡ keep t xs
@@ -38,13 +29,9 @@ module _ (t : ℕ → Bool) (ls : List ℕ) (i : ℕ) (h : i < length ls) where
   abbrev x : ℕ
   x = getD ls i 0
 
-  keep-more : keep t (take (i + 1) ls) ≡ keep t (take i ls) ++ cond (t x) (x ∷ []) []
-  unfolding keep
-  keep-more = (λ j. keep t (take (add-one i j) ls)) ∙ ap (keep t) (take-suc ls i 0 h) ∙ keep-append t (take i ls) (x ∷ [])
-
   -- which doesn't pass
   pub pass-more : (n : ℕ) → n ≡ cond (t (getD ls i 0)) 1 0 → n ≡ 0 → keep t (take (i + 1) ls) ≡ keep t (take i ls)
-  pass-more n e z = keep-more ∙ none (t x) (sym e ∙ z)
+  pass-more n e z = keep-more t ls i 0 h ∙ none (t x) (sym e ∙ z)
     where
       none : (b : Bool) → _≡_ {A = ℕ} (cond b 1 0) 0 → keep t (take i ls) ++ cond b (x ∷ []) [] ≡ keep t (take i ls)
       none true z = absurd (omega arith)
@@ -62,7 +49,7 @@ module _ (t : ℕ → Bool) (ls : List ℕ) (i : ℕ) (h : i < length ls) where
 
     pub pick-more : (n : ℕ) → n ≡ cond (t (getD ls i 0)) 1 0 → take (m + n) (set out m (getD ls i 0)) ≡ before ++ keep t (take (i + 1) ls)
     pick-more n e =
-        ap (λ (k : ℕ). take (m + k) (set out m x)) e ∙ written (t x) ∙ ap (λ (l : List ℕ). before ++ l) (sym keep-more)
+        ap (λ (k : ℕ). take (m + k) (set out m x)) e ∙ written (t x) ∙ ap (λ (l : List ℕ). before ++ l) (sym (keep-more t ls i 0 h))
 
 -- elements that don't pass
 pub skip : (t : ℕ → Bool) (ls : List ℕ) (a n : ℕ) → a + n ≤ length ls → ((i : ℕ) → a ≤ i → i < a + n → t (getD ls i 0) ≡ false)
@@ -105,7 +92,7 @@ keep-every t (x ∷ xs) h = go (t x) h (keep-every t xs)
 pub count-more : (t : ℕ → Bool) (ls : List ℕ) (i c n : ℕ) → i < length ls → c ≡ length (keep t (take i ls)) → n ≡ cond (t (getD ls i 0)) 1 0
     → c + n ≡ length (keep t (take (i + 1) ls))
 count-more t ls i c n h e f =
-    sym (ap length (keep-more t ls i h) ∙ length-append (keep t (take i ls)) (cond (t (getD ls i 0)) (getD ls i 0 ∷ []) [])
+    sym (ap length (keep-more t ls i 0 h) ∙ length-append (keep t (take i ls)) (cond (t (getD ls i 0)) (getD ls i 0 ∷ []) [])
     ∙ go (t (getD ls i 0)) f)
   where
     go : (b : Bool) → n ≡ cond b 1 0 → length (keep t (take i ls)) + length (cond b (getD ls i 0 ∷ []) []) ≡ c + n

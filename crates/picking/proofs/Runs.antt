@@ -8,13 +8,14 @@ use native.Mathlib.Omega.{arith}
 use lib.ListN.{length, getD, take, drop, length-drop, take-append-drop}
 use lib.Seq.{getD-take, getD-drop, take-add, take-all, length-take-le}
 use Rattle.bits.specs.Sets.{keep}
+use Rattle.bits.proofs.Sets.{keep-append}
 use Rattle.model.specs.Journal.{carries}
 use Rattle.delegation.specs.Loans.{lastShift}
 use Rattle.delegation.specs.Picking.{picks}
 use Rattle.delegation.proofs.Loans.{carries-open, carries-later, carries-not}
 use Rattle.delegation.specs.Below.{Below}
 use Rattle.picking.specs.Runs.{ofKey, Appended}
-use Rattle.picking.proofs.Picking.{keep-append, keep-same, skip}
+use Rattle.picking.proofs.Picking.{keep-same, skip}
 
 -- ---- a part more, behind what was picked of the words before it
 pub appended-more : (out mid after words : List ℕ) (m key k r i n : ℕ) → i + n ≤ length words → k ≤ m + i

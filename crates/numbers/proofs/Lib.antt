@@ -1,0 +1,4 @@
+pub mod Distinct
+pub mod Spread
+pub mod Tally
+pub mod Places
