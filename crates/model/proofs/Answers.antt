@@ -33,6 +33,9 @@ answer-for is.Malformed = refl
 answer-for is.ShiftBack = refl
 answer-for is.LastPast = refl
 answer-for is.EmptySet = refl
+answer-for is.TicketsFull = refl
+answer-for is.NumbersSpent = refl
+answer-for is.NoTicket = refl
 
 pub answer-is : (a : Answer) (n : ℕ) → numberOf a ≡ n → a ≡ answerFor n
 answer-is a n e = sym (answer-for a) ∙ ap answerFor e

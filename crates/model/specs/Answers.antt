@@ -40,6 +40,10 @@ numberOf is.Malformed = 11
 numberOf is.ShiftBack = 12
 numberOf is.LastPast = 13
 numberOf is.EmptySet = 14
+-- of the ticket unit alone
+numberOf is.TicketsFull = 15
+numberOf is.NumbersSpent = 16
+numberOf is.NoTicket = 17
 
 -- the answer whose number is n
 unfoldable pub answerFor : ℕ → Answer
@@ -58,7 +62,10 @@ answerFor n =
     cond (eqb n 12) is.ShiftBack (
     cond (eqb n 13) is.LastPast (
     cond (eqb n 14) is.EmptySet (
-    is.Malformed))))))))))))))
+    cond (eqb n 15) is.TicketsFull (
+    cond (eqb n 16) is.NumbersSpent (
+    cond (eqb n 17) is.NoTicket (
+    is.Malformed)))))))))))))))))
 
 -- r is that answer, and n its number
 abbrev pub Numbered : Answer → ℕ → Type 0

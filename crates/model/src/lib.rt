@@ -327,6 +327,9 @@ pub enum Answer {
     ShiftBack,
     LastPast,
     EmptySet,
+    TicketsFull,
+    NumbersSpent,
+    NoTicket,
 }
 
 impl Answer {
@@ -349,6 +352,9 @@ impl Answer {
             Answer::ShiftBack => 12,
             Answer::LastPast => 13,
             Answer::EmptySet => 14,
+            Answer::TicketsFull => 15,
+            Answer::NumbersSpent => 16,
+            Answer::NoTicket => 17,
         }
     }
 }
