@@ -1,0 +1,1 @@
+// Tickets and lists compared, as a theorem. There is no code here.
