@@ -1,5 +1,5 @@
 /*
- * The rights engine of a pill dispenser, for C and C++: access control lists, capability rows, and chains of delegation.
+ * The rights engine of a pill dispenser, for C and C++: access control lists, capability rows, chains of delegation, and tickets.
  *
  * The caller lends every buffer; nothing is allocated and nothing is kept between calls. A buffer is a pointer and its length in
  * elements, side by side. No pointer is null, also where the length is 0; a buffer is aligned for its elements; the buffers and
@@ -12,10 +12,11 @@
  *
  * - Machine: x86-64 with SSE2, the System V calling convention, ELF. There is no library for another machine yet.
  * - Other code: memset, and nothing else. No heap, no thread, no operating system, no state of its own.
- * - Stack: RIGHTS_STACK_BYTES below the caller's frame, arguments included, is enough for any call. The most that was measured is 5,319
- *   bytes, by rights_chains_check; no other call used over 500.
- * - Threads: checks, subjects, inspections and conversions from one image may run side by side. A call that writes an image needs it
- *   alone: no other call on that image meanwhile. Calls on different buffers never meet.
+ * - Stack: RIGHTS_STACK_BYTES below the caller's frame, arguments included, is enough for any call but one on a ticket image, which
+ *   sorts up to 1,024 numbers there: RIGHTS_TICKETS_STACK_BYTES is enough for those. Of the others the most that was measured is 5,319
+ *   bytes, by rights_chains_check; none beside it used over 500.
+ * - Threads: checks, subjects, inspections, records and conversions from one image may run side by side. A call that writes an image
+ *   needs it alone: no other call on that image meanwhile. Calls on different buffers never meet.
  * - Interrupts and loss of power: no call is atomic. What is stored must change as a whole: run the command on a copy, and where it
  *   returned RIGHTS_DONE put the copy in the place of the image.
  *
@@ -24,16 +25,16 @@
  * - Byte order: least byte first, which is how this machine holds words.
  * - Layout: keep RIGHTS_LAYOUT_DATE beside every stored image, and read no image with another date.
  * - Integrity: 'in order' is no checksum. Of the single-bit changes to the images of one state 5,587 left them in order, each then
- *   with another shift or other items, grants or loans. Keep a checksum beside every stored image, and compare it before
- *   rights_*_inspect.
+ *   with another shift or other items, grants or loans. Where ticket 0 has gone, one bit of a ticket image makes a record that is all 0
+ *   a ticket of right 0 on item 0. Keep a checksum beside every stored image, and compare it before rights_*_inspect.
  *
  * At start-up compare the header with the library, so that neither is of another engine:
  *
  *     if (rights_version() != RIGHTS_VERSION || rights_layout_date() != RIGHTS_LAYOUT_DATE)
  *         use nothing of it
  *
- * Sizes, numbers and prototypes are stated here once for every language that calls the engine: a size or number is one line,
- * `#define NAME NUMBER`, and a prototype begins with RIGHTS_NODISCARD.
+ * Sizes, numbers, records and prototypes are stated here once for every language that calls the engine: a size or number is one line,
+ * `#define NAME NUMBER`, a record is a typedef with one field a line, and a prototype begins with RIGHTS_NODISCARD.
  */
 #ifndef RIGHTS_H
 #define RIGHTS_H
@@ -66,22 +67,24 @@ extern "C" {
 #endif
 
 /* Which engine this header is of: 10000 * major + 100 * minor + patch, and the date of the images' layout as digits. */
-#define RIGHTS_VERSION 10600
-#define RIGHTS_LAYOUT_DATE 20261116
+#define RIGHTS_VERSION 10700
+#define RIGHTS_LAYOUT_DATE 20261117
 
-/* Enough stack below the caller's frame for any call. */
+/* Enough stack below the caller's frame: for any call but one on a ticket image, and for any call. */
 #define RIGHTS_STACK_BYTES 8192
+#define RIGHTS_TICKETS_STACK_BYTES 16384
 
 /*
  * Limits. An item is a person or a thing, 0 to RIGHTS_ITEM_MAX; item 0 is the root item. Right 0 is the right to edit grants. The last
  * shift of a loan is 1 to RIGHTS_SHIFT_MAX, or 0 for a loan that is open-ended. A set of items is any number of 64 bits, bit i for
- * item i.
+ * item i. Up to RIGHTS_TICKETS_MAX tickets live at once; a ticket's number is any number of 32 bits but the greatest.
  */
 #define RIGHTS_ITEM_MAX 63
 #define RIGHTS_RIGHT_MAX 7
 #define RIGHTS_DEPTH_MAX 7
 #define RIGHTS_SHIFT_MAX 255
 #define RIGHTS_LOANS_MAX 1024
+#define RIGHTS_TICKETS_MAX 1024
 
 /*
  * Images.
@@ -97,19 +100,43 @@ extern "C" {
  *
  * An image is in order when item 0 lives, it names no dead item (for loans, by the live set of the grants), the shift is at most
  * RIGHTS_SHIFT_MAX and the count at most RIGHTS_LOANS_MAX, the loans in use rise strictly and carry no right 0, and the rest is 0.
+ *
+ * Tickets: word 0 is the live set, word 1 the next number; then RIGHTS_TICKETS_MAX records of two words, number + item * 2^32 + right *
+ * 2^40 + issuer * 2^48, and the set of holders. A record lives when it has a holder; every other is all 0. In memory a record is a
+ * rights_ticket.
+ *
+ * A ticket image is in order when item 0 lives, the next number is at most 4294967295, each record has a holder or is all 0, and of
+ * those with a holder the numbers differ and are below the next, the rights are at most RIGHTS_RIGHT_MAX and the issuers at most
+ * RIGHTS_ITEM_MAX, and the items and holders live. An issuer may be dead, and need not hold the ticket.
  */
 #define RIGHTS_LISTS_WORDS 513
 #define RIGHTS_ROWS_BYTES 4104
 #define RIGHTS_GRANTS_BYTES 32776
 #define RIGHTS_LOANS_WORDS 1025
+#define RIGHTS_TICKETS_WORDS 2050
 
 /* The chain buffer of a check: the bytes it has, and the byte after the last person. */
 #define RIGHTS_CHAIN_PERSONS 8
 #define RIGHTS_NO_PERSON 255
 
+/* A ticket: what it opens, who issued it, and the set of its holders, bit i for item i. It has 16 bytes and no padding. */
+typedef struct rights_ticket {
+    uint32_t number;
+    uint8_t item;
+    uint8_t right;
+    uint16_t issuer;
+    uint64_t holders;
+} rights_ticket;
+
+#if defined(__cplusplus) && __cplusplus >= 201103L
+static_assert(sizeof(rights_ticket) == 16, "a ticket is two words of its image");
+#elif defined(__STDC_VERSION__) && __STDC_VERSION__ >= 201112L
+_Static_assert(sizeof(rights_ticket) == 16, "a ticket is two words of its image");
+#endif
+
 /*
- * What a function returns, in words: rights_text. The first that applies is given, in this order: 1 to 3, 14, 4 to 8, 12, 9, 13, 10. No
- * function here returns RIGHTS_MALFORMED, the number of a command line.
+ * What a function returns, in words: rights_text. The first that applies is given, in this order: 1 to 3, 14, 4 to 8, 12, 9, 13, 10; of
+ * the ticket unit 1 to 7, 17, 15, 16. No function here returns RIGHTS_MALFORMED, the number of a command line.
  */
 #define RIGHTS_DONE 0
 #define RIGHTS_WRONG_LENGTH 1
@@ -126,6 +153,9 @@ extern "C" {
 #define RIGHTS_SHIFT_BACK 12
 #define RIGHTS_LAST_PAST 13
 #define RIGHTS_EMPTY_SET 14
+#define RIGHTS_TICKETS_FULL 15
+#define RIGHTS_NUMBERS_SPENT 16
+#define RIGHTS_NO_TICKET 17
 
 /* A short text for a number; never null. */
 static inline const char *rights_text(uint32_t number)
@@ -146,6 +176,9 @@ static inline const char *rights_text(uint32_t number)
     case RIGHTS_SHIFT_BACK: return "shift: below the present one while a loan with a last shift stands";
     case RIGHTS_LAST_PAST: return "lend: last is set and below the present shift";
     case RIGHTS_EMPTY_SET: return "allowset: the set is empty";
+    case RIGHTS_TICKETS_FULL: return "create, generate: 1,024 tickets live";
+    case RIGHTS_NUMBERS_SPENT: return "create, generate: every ticket number is used";
+    case RIGHTS_NO_TICKET: return "by lacks the ticket it must hold, or no live ticket has the number";
     default: return "no number of this engine";
     }
 }
@@ -297,6 +330,59 @@ RIGHTS_NODISCARD uint32_t rights_chains_check(const uint8_t *grants, size_t byte
 /* Judges both images alone: RIGHTS_DONE where they are in order. 0 to 2. */
 RIGHTS_NODISCARD uint32_t rights_chains_inspect(const uint8_t *grants, size_t bytes, const uint32_t *loans,
     size_t words) RIGHTS_NONNULL;
+
+/* ---- Tickets. `words` is RIGHTS_TICKETS_WORDS, `places` RIGHTS_TICKETS_MAX. */
+
+/* Makes a fresh unit, whatever the buffer held: item 0 lives and holds ticket 0, which it issued, of right 0 on itself. 0 or 1. */
+RIGHTS_NODISCARD uint32_t rights_tickets_fresh(uint64_t *image, size_t words) RIGHTS_NONNULL;
+
+/* Item on lives, and by holds a new ticket of right 0 on it, which by issued. 0 to 4, 6, 15 or 16. */
+RIGHTS_NODISCARD uint32_t rights_tickets_create(uint64_t *image, size_t words, uint32_t by, uint32_t on) RIGHTS_NONNULL;
+
+/*
+ * Issues a ticket of the right on item on; by needs one of right 0 there, and holds the new one, alone. Sets *number to the new
+ * ticket's, which no other ticket had or will have; beside a refusal to 0. The ticket takes the first record that is all 0. 0 to 5, 17,
+ * 15 or 16.
+ */
+RIGHTS_NODISCARD uint32_t rights_tickets_generate(uint64_t *image, size_t words, uint32_t by, uint32_t on, uint32_t right,
+    uint32_t *number) RIGHTS_NONNULL;
+
+/* Makes to a holder too of the ticket with that number, which by needs to hold, and goes on holding. 0 to 5 or 17. */
+RIGHTS_NODISCARD uint32_t rights_tickets_pass(uint64_t *image, size_t words, uint32_t by, uint32_t to,
+    uint32_t number) RIGHTS_NONNULL;
+
+/*
+ * Takes the ticket with that number from everyone, and it ends: its record is all 0. by needs a ticket of right 0 on the item that it
+ * is for; that may be the ticket itself. 0 to 4 or 17.
+ */
+RIGHTS_NODISCARD uint32_t rights_tickets_remove(uint64_t *image, size_t words, uint32_t by, uint32_t number) RIGHTS_NONNULL;
+
+/*
+ * Item on is dead; the tickets for it end, and on holds no ticket any more, nor does a ticket live that on alone held. by needs a ticket
+ * of right 0 on it. 0 to 5, 7 or 17.
+ */
+RIGHTS_NODISCARD uint32_t rights_tickets_delete(uint64_t *image, size_t words, uint32_t by, uint32_t on) RIGHTS_NONNULL;
+
+/* Sets *yes to 1 where who holds a live ticket of the right on item on, else to 0. Who issued it does not count. 0 to 3. */
+RIGHTS_NODISCARD uint32_t rights_tickets_check(const uint64_t *image, size_t words, uint32_t who, uint32_t on, uint32_t right,
+    uint32_t *yes) RIGHTS_NONNULL;
+
+/* Judges the image alone: RIGHTS_DONE where it is in order. 0 to 2. */
+RIGHTS_NODISCARD uint32_t rights_tickets_inspect(const uint64_t *image, size_t words) RIGHTS_NONNULL;
+
+/* Writes the image's records, in their places, those that are all 0 too. 0 to 2; 1 where either length is wrong. */
+RIGHTS_NODISCARD uint32_t rights_tickets_records(const uint64_t *image, size_t words, rights_ticket *tickets,
+    size_t places) RIGHTS_NONNULL;
+
+/* The record at a place, from 0 on, of any number of records; past their end one that is all 0. */
+RIGHTS_NODISCARD rights_ticket rights_tickets_at(const rights_ticket *tickets, size_t places, size_t place) RIGHTS_NONNULL;
+
+/*
+ * The check over the records that rights_tickets_records wrote; it judges no order, so lend it no others. 0, 1 where places is not
+ * RIGHTS_TICKETS_MAX, or 3.
+ */
+RIGHTS_NODISCARD uint32_t rights_tickets_check_records(const rights_ticket *tickets, size_t places, uint32_t who, uint32_t on,
+    uint32_t right, uint32_t *yes) RIGHTS_NONNULL;
 
 /* ---- Which engine this is. */
 

@@ -10,6 +10,8 @@ use Rattle.layouts.specs.Convert.{convertNumber, convertOf}
 use Rattle.layouts.specs.Subjects.{subjectsNumber, subjectsAnswer}
 use Rattle.delegation.specs.Images.{Images}
 use Rattle.delegation.specs.ChainUnit.{chainCheckNumber, chainFound, chainBuffer, chainLeft, chainFreshNumber, chainFreshOf, chainGuarded}
+use Rattle.ticketing.specs.declared.TicketCommand.{TicketCommand}
+use Rattle.ticketing.specs.Unit as tickets
 
 -- yes is 1 and no is 0
 abbrev pub flag : Bool → ℕ
@@ -53,3 +55,24 @@ ChainAnswers s buffer p o r n d k b x =
 -- number n and images x of a look at the images alone
 abbrev pub ChainInspects : Images → ℕ → Images → Type 0
 ChainInspects s n x = (n ≡ chainGuarded s true 0) × (x ≡ s)
+
+-- ---- the same of a ticket unit, in the words of request K6
+-- 'fresh, item 0 lives, the next is 1 and ticket 0 is 0's for right 0 on item 0'
+abbrev pub TicketFreshens : List ℕ → ℕ → List ℕ → Type 0
+TicketFreshens s n x = (n ≡ tickets.freshNumber s) × (x ≡ tickets.freshOf s)
+
+-- 'create issues ..', 'pass (by, to, number) needs ..', 'remove (by, number) needs ..', 'delete needs one too ..': number n and image x
+abbrev pub TicketGives : List ℕ → TicketCommand → ℕ → List ℕ → Type 0
+TicketGives s c n x = (n ≡ tickets.answerOf s c) × (x ≡ tickets.stepOf s c)
+
+-- 'generate (by, on, right) .. leaves the new ticket with the issuer': the same, and the number k of that ticket, 0 beside a refusal
+abbrev pub TicketGenerates : List ℕ → TicketCommand → ℕ → ℕ → List ℕ → Type 0
+TicketGenerates s c n k x = TicketGives s c n x × (k ≡ tickets.givenOf s c)
+
+-- 'The check says yes exactly when the person holds a live ticket for that item and right': number n, yes y and image x
+abbrev pub TicketAnswers : List ℕ → ℕ → ℕ → ℕ → ℕ → ℕ → List ℕ → Type 0
+TicketAnswers s p o r n y x = (n ≡ tickets.checkNumber s p o r) × (y ≡ flag (tickets.checkYes s p o r)) × (x ≡ s)
+
+-- 'In order: ..': number n and image x of judging an image
+abbrev pub TicketInspects : List ℕ → ℕ → List ℕ → Type 0
+TicketInspects s n x = (n ≡ tickets.guarded s 0) × (x ≡ s)

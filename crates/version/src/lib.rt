@@ -7,13 +7,13 @@ pub struct Version {}
 impl Version {
     pub const MAJOR: u32 = 1;
 
-    pub const MINOR: u32 = 6;
+    pub const MINOR: u32 = 7;
 
     pub const PATCH: u32 = 0;
 
     // As one number, two digits each for minor and patch.
     pub fn number() -> u32
-        ensures { λ r. ⌜ r ≡ 10600 ⌝ }
+        ensures { λ r. ⌜ r ≡ 10700 ⌝ }
     {
         10000 * Version::MAJOR + 100 * Version::MINOR + Version::PATCH
     }
@@ -27,11 +27,11 @@ impl Layout {
 
     pub const MONTH: u32 = 11;
 
-    pub const DAY: u32 = 16;
+    pub const DAY: u32 = 17;
 
     // As one number, two digits each for month and day.
     pub fn date() -> u32
-        ensures { λ r. ⌜ r ≡ 20261116 ⌝ }
+        ensures { λ r. ⌜ r ≡ 20261117 ⌝ }
     {
         10000 * Layout::YEAR + 100 * Layout::MONTH + Layout::DAY
     }

@@ -1,0 +1,5 @@
+pub mod Judging
+pub mod Records
+pub mod Filling
+pub mod Finding
+pub mod Walking

@@ -1,0 +1,22 @@
+-- Past the end of a list `getD` is its default.
+use borrow.Author.Needs.{needs}
+use mathlib.Core.Path.{sym}
+use lib.ListN.{List·getD-eq-default}
+use denote.Ref.{now}
+use Rattle.records.proofs.word_at.Statement.{statement}
+use Rattle.records.proofs.word_at.Tie as tie
+
+returns : tie.Need-returns
+returns c = sym (List·getD-eq-default (now (c .before .args .image)) 0 (c .if1 .taken))
+
+mul-result : tie.Need-mul-result
+mul-result c = search needs
+
+shared-slice-read-result : tie.Need-shared-slice-read-result
+shared-slice-read-result c = search needs
+
+returns-2 : tie.Need-returns-2
+returns-2 c = search needs
+
+pub word-at-spec : {M : Type 1} → statement M
+word-at-spec = tie.close (tie.spec returns mul-result shared-slice-read-result returns-2)
