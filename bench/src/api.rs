@@ -1,9 +1,9 @@
 //! What is measured: the public functions of the engine, as a table of functions that two implementations fill.
 
 pub use rights::{
-    ALREADY_LIVE, BY_DEAD, CHAIN_PERSONS, DEPTH_MAX, DONE, EDIT_RIGHT, EMPTY_SET, FULL, GRANTS_BYTES, ITEM_MAX,
-    LISTS_WORDS, LOANS_MAX, LOANS_WORDS, NAMED_DEAD, NOT_IN_ORDER, NO_EDIT, OUT_OF_RANGE, RIGHT_MAX, ROOT_ITEM,
-    ROWS_BYTES, SHIFT_MAX, WRONG_LENGTH,
+    Ticket, ALREADY_LIVE, BY_DEAD, CHAIN_PERSONS, DEPTH_MAX, DONE, EDIT_RIGHT, EMPTY_SET, FULL, GRANTS_BYTES, ITEM_MAX,
+    LISTS_WORDS, LOANS_MAX, LOANS_WORDS, NAMED_DEAD, NOT_IN_ORDER, NO_EDIT, NO_TICKET, NUMBERS_SPENT, OUT_OF_RANGE,
+    RIGHT_MAX, ROOT_ITEM, ROWS_BYTES, SHIFT_MAX, TICKETS_FULL, TICKETS_MAX, TICKETS_WORDS, WRONG_LENGTH,
 };
 
 pub const NO_PERSON: u8 = rights::NO_PERSON as u8;
@@ -27,7 +27,7 @@ pub struct Question {
     pub right: u32,
 }
 
-/// A number and a value: yes or no of a check, the persons of a subject set.
+/// A number and a value: yes or no of a check, the persons of a subject set, the number of a new ticket.
 #[derive(Clone, Copy, Debug, PartialEq)]
 pub struct Said {
     pub number: u32,
@@ -69,10 +69,25 @@ pub struct Chains {
     pub inspect: fn(&[u8], &[u32]) -> u32,
 }
 
+pub struct Tickets {
+    pub fresh: fn(&mut [u64]) -> u32,
+    pub create: fn(&mut [u64], u32, u32) -> u32,
+    pub generate: fn(&mut [u64], u32, u32, u32) -> Said,
+    pub pass: fn(&mut [u64], u32, u32, u32) -> u32,
+    pub remove: fn(&mut [u64], u32, u32) -> u32,
+    pub delete: fn(&mut [u64], u32, u32) -> u32,
+    pub check: fn(&[u64], Question) -> Said,
+    pub inspect: fn(&[u64]) -> u32,
+    pub records: fn(&[u64], &mut [Ticket]) -> u32,
+    pub at: fn(&[Ticket], usize) -> Ticket,
+    pub check_records: fn(&[Ticket], Question) -> Said,
+}
+
 pub struct Api {
     pub lists: Flat<u64>,
     pub rows: Flat<u8>,
     pub lists_to_rows: fn(&[u64], &mut [u8]) -> u32,
     pub rows_to_lists: fn(&[u8], &mut [u64]) -> u32,
     pub chains: Chains,
+    pub tickets: Tickets,
 }

@@ -8,15 +8,15 @@ use crate::plain::{bits, PLAIN, SETTLING};
 use crate::state::{home, written, ChainState, Lending, Pair, KEY, LENDER};
 use std::hint::black_box;
 
-type Step<T, S> = fn(&T, &mut S) -> u64;
+pub type Step<T, S> = fn(&T, &mut S) -> u64;
 
 /// A step of some calls that leaves the images as it found them, or that can be repeated on what it leaves.
 /// Its result folds what the calls answered.
-struct Case<T, S> {
-    name: String,
-    calls: u32,
-    state: S,
-    step: Step<T, S>,
+pub struct Case<T, S> {
+    pub name: String,
+    pub calls: u32,
+    pub state: S,
+    pub step: Step<T, S>,
 }
 
 pub struct Line {
@@ -36,7 +36,7 @@ fn agree<T, S: Clone + PartialEq>(case: &Case<T, S>, engine: &T, plain: &T) {
     }
 }
 
-fn run<T, S: Clone + PartialEq>(mut case: Case<T, S>, engine: &T, plain: &T) -> Line {
+pub fn run<T, S: Clone + PartialEq>(mut case: Case<T, S>, engine: &T, plain: &T) -> Line {
     agree(&case, engine, plain);
     let (engine, plain) = (black_box(engine), black_box(plain));
     let step = black_box(case.step);
@@ -44,8 +44,8 @@ fn run<T, S: Clone + PartialEq>(mut case: Case<T, S>, engine: &T, plain: &T) -> 
     Line { name: case.name, times }
 }
 
-fn digest(said: Said) -> u64 {
-    said.value.wrapping_mul(16) + u64::from(said.number)
+pub fn digest(said: Said) -> u64 {
+    said.value.wrapping_mul(32) + u64::from(said.number)
 }
 
 /// A grant that stands nowhere in the states: the root's, to item 6 on item 8.

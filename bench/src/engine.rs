@@ -1,7 +1,7 @@
 //! The proved engine, by the Rust crate's functions over slices.
 
-use crate::api::{Api, Chains, Flat, Found, Said};
-use rights::lent::{chains, convert, lists, rows};
+use crate::api::{Api, Chains, Flat, Found, Said, Tickets};
+use rights::lent::{chains, convert, lists, rows, tickets};
 
 macro_rules! flat_unit {
     ($unit:ident) => {
@@ -42,10 +42,29 @@ const CHAINS: Chains = Chains {
     inspect: chains::inspect,
 };
 
+fn said((number, value): (u32, u32)) -> Said {
+    Said { number, value: u64::from(value) }
+}
+
+const TICKETS: Tickets = Tickets {
+    fresh: tickets::fresh,
+    create: tickets::create,
+    generate: |image, by, on, right| said(tickets::generate(image, by, on, right)),
+    pass: tickets::pass,
+    remove: tickets::remove,
+    delete: tickets::delete,
+    check: |image, q| said(tickets::check(image, q.who, q.on, q.right)),
+    inspect: tickets::inspect,
+    records: tickets::records,
+    at: tickets::at,
+    check_records: |records, q| said(tickets::check_records(records, q.who, q.on, q.right)),
+};
+
 pub const ENGINE: Api = Api {
     lists: flat_unit!(lists),
     rows: flat_unit!(rows),
     lists_to_rows: convert::lists_to_rows,
     rows_to_lists: convert::rows_to_lists,
     chains: CHAINS,
+    tickets: TICKETS,
 };

@@ -11,6 +11,7 @@ mod scans;
 mod sizes;
 mod state;
 mod streams;
+mod tickets;
 
 use calls::Line;
 
@@ -36,6 +37,7 @@ fn print_machine() {
 
 fn main() {
     lockstep::run();
+    tickets::lockstep();
     print_machine();
     print_calls("Lists", "plain Rust", &calls::lists());
     print_calls("Rows", "plain Rust", &calls::rows());
@@ -47,6 +49,8 @@ fn main() {
     print_times("Sets of 40 members", ["Unit", "40 allows", "one allow_set"], &calls::sets());
     print_times("Drop", ["Beside", "drop", "the other"], &calls::drops());
     print_times("Withdraw as eight drops", ["Unit", "8 drops", "one withdraw"], &calls::withdraws());
+    print_calls("Tickets: commands", "plain Rust", &tickets::calls());
+    print_calls("Tickets: checks, inspections and records", "plain Rust", &tickets::looks());
     print_calls("In-order scans", "memory read", &scans::scans());
     program::print();
     sizes::print();

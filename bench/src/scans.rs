@@ -6,6 +6,7 @@ use crate::engine::ENGINE;
 use crate::measure::compare;
 use crate::plain::PLAIN;
 use crate::state::{home, written, ChainState};
+use crate::tickets::TicketState;
 
 fn sum_bytes(image: &[u8]) -> u64 {
     image.chunks_exact(8).fold(0, |sum, eight| sum.wrapping_add(u64::from_le_bytes(eight.try_into().expect("8 bytes"))))
@@ -30,6 +31,11 @@ fn chain_scan(loans: u32) -> Line {
     scan(format!("grants and loans, {} loans", written(loans)), ChainState::spread(loans), inspect, read)
 }
 
+fn ticket_scan(name: &str, state: TicketState) -> Line {
+    let inspect = |s: &TicketState| u64::from((ENGINE.tickets.inspect)(&s.image));
+    scan(name.to_string(), state, inspect, |s| sum_words(&s.image))
+}
+
 pub fn scans() -> Vec<Line> {
     let lists = home(&PLAIN.lists, LISTS_WORDS);
     let rows = home(&PLAIN.rows, ROWS_BYTES);
@@ -39,5 +45,7 @@ pub fn scans() -> Vec<Line> {
         chain_scan(0),
         chain_scan(64),
         chain_scan(1024),
+        ticket_scan("tickets, 1,024 rising", TicketState::rising(1024)),
+        ticket_scan("tickets, 1,024 shuffled", TicketState::shuffled(1024)),
     ]
 }

@@ -1,6 +1,6 @@
 //! The size of the library, its largest stack frame, and the images.
 
-use crate::api::{CHAIN_PERSONS, GRANTS_BYTES, LISTS_WORDS, LOANS_WORDS, ROWS_BYTES};
+use crate::api::{CHAIN_PERSONS, GRANTS_BYTES, LISTS_WORDS, LOANS_WORDS, ROWS_BYTES, TICKETS_WORDS};
 use std::path::{Path, PathBuf};
 use std::process::Command;
 
@@ -55,6 +55,7 @@ pub fn print() {
         ("grants of a chain unit".to_string(), GRANTS_BYTES as u64),
         ("loans of a chain unit".to_string(), 4 * LOANS_WORDS as u64),
         ("chain buffer of a check".to_string(), CHAIN_PERSONS as u64),
+        ("image of tickets".to_string(), 8 * TICKETS_WORDS as u64),
     ];
     println!("\n### Sizes\n\n| What | bytes |\n|---|---:|");
     rows.iter().for_each(|(name, bytes)| println!("| {name} | {bytes} |"));

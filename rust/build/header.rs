@@ -1,12 +1,25 @@
-//! include/rights.h as Rust: constants, texts and declarations.
+//! include/rights.h as Rust: constants, texts and declarations, and what the crate's records must be.
 
 use std::fs;
 use std::path::Path;
 
 use crate::{rerun_if_changed, Outcome};
 
-/// What every prototype begins with.
-const BEGIN: &str = "RIGHTS_NODISCARD uint32_t ";
+/// What every prototype begins with, and a line.
+const BEGIN: &str = "RIGHTS_NODISCARD ";
+
+/// The kinds of C and of Rust. A record is written out in the crate, for its readers.
+const KINDS: [(&str, &str); 6] = [
+    ("uint8_t", "u8"),
+    ("uint16_t", "u16"),
+    ("uint32_t", "u32"),
+    ("uint64_t", "u64"),
+    ("size_t", "usize"),
+    (TICKET, "crate::Ticket"),
+];
+
+/// The one record.
+const TICKET: &str = "rights_ticket";
 
 /// Writes constants.rs, texts.rs and ffi.rs into the folder.
 pub fn write(header: &Path, out: &Path) -> Outcome<()> {
@@ -40,7 +53,8 @@ fn constant(line: &str) -> Option<String> {
 
 /// Lengths of buffers count in `usize`; every other number is one that a call takes or gives.
 fn kind_of(name: &str) -> &'static str {
-    let length = ["_WORDS", "_BYTES", "_PERSONS"].iter().any(|end| name.ends_with(end));
+    let ends = ["_WORDS", "_BYTES", "_PERSONS", "TICKETS_MAX"];
+    let length = ends.iter().any(|end| name.ends_with(end));
     if length {
         "usize"
     } else {
@@ -67,18 +81,20 @@ fn arm(line: &str) -> Option<(&str, &str)> {
     Some((name, said))
 }
 
-/// The functions of the header, each with the comment above it.
+/// The functions of the header, each with the comment above it, and the test of the record.
 fn declarations(text: &str) -> Outcome<String> {
     let functions = text
         .match_indices(BEGIN)
+        .filter(|&(at, _)| text[..at].ends_with('\n'))
         .map(|(at, _)| declaration(&text[..at], &text[at..]))
         .collect::<Outcome<Vec<String>>>()?;
-    let every = text.matches("uint32_t rights_").count();
+    let of_kind = |(kind, _): &(&str, &str)| text.matches(&format!("{kind} rights_")).count();
+    let every: usize = KINDS.iter().map(of_kind).sum();
     if functions.is_empty() || functions.len() != every {
         let read = functions.len();
         return Err(format!("{every} prototypes, of which {read} begin with `{BEGIN}`"));
     }
-    Ok(format!("extern \"C\" {{\n{}}}\n", functions.concat()))
+    Ok(format!("extern \"C\" {{\n{}}}\n{}", functions.concat(), record_test(text, TICKET)?))
 }
 
 /// The declaration of the prototype that the second text begins with.
@@ -86,7 +102,9 @@ fn declaration(before: &str, from: &str) -> Outcome<String> {
     let end = from.find(';').ok_or("a prototype has no end")?;
     let prototype = from[BEGIN.len()..end].split_whitespace().collect::<Vec<_>>().join(" ");
     let unread = |what: &str| format!("cannot read the prototype `{prototype}`: {what}");
-    let (name, rest) = prototype.split_once('(').ok_or_else(|| unread("no parameters"))?;
+    let (result, named) = prototype.split_once(' ').ok_or_else(|| unread("no result"))?;
+    let result = rust_kind(result).ok_or_else(|| unread("its result"))?;
+    let (name, rest) = named.split_once('(').ok_or_else(|| unread("no parameters"))?;
     let parameters = match rest.strip_suffix(") RIGHTS_NONNULL") {
         Some(listed) => listed.split(", ").map(parameter).collect::<Option<Vec<String>>>(),
         None => Some(Vec::new()).filter(|_| rest == "void)"),
@@ -96,7 +114,7 @@ fn declaration(before: &str, from: &str) -> Outcome<String> {
         return Err(unread("its name"));
     }
     let says = comment(before).ok_or_else(|| unread("no comment stands above it"))?;
-    Ok(format!("#[doc = {says:?}]\n#[must_use]\npub fn {name}({parameters}) -> u32;\n"))
+    Ok(format!("#[doc = {says:?}]\n#[must_use]\npub fn {name}({parameters}) -> {result};\n"))
 }
 
 /// `const uint8_t *grants` as `grants: *const u8`.
@@ -106,19 +124,54 @@ fn parameter(c: &str) -> Option<String> {
         None => ("*mut ", c),
     };
     let (kind, name) = rest.split_once(' ')?;
-    let kind = match kind {
-        "uint8_t" => "u8",
-        "uint32_t" => "u32",
-        "uint64_t" => "u64",
-        "size_t" => "usize",
-        _ => return None,
-    };
+    let kind = rust_kind(kind)?;
     let (pointed, name) = match name.strip_prefix('*') {
         Some(name) => (pointed, name),
         None => ("", name),
     };
     let by_value = pointed.is_empty() && c.starts_with("const ");
     Some(format!("{name}: {pointed}{kind}")).filter(|_| is_name(name) && !by_value)
+}
+
+fn rust_kind(c: &str) -> Option<&'static str> {
+    KINDS.iter().find(|(kind, _)| *kind == c).map(|(_, rust)| *rust)
+}
+
+/// Fails to compile where the crate's record has not the fields of the header's, in their order, or
+/// has another beside them.
+fn record_test(text: &str, name: &str) -> Outcome<String> {
+    let unread = |what: &str| format!("cannot read the record `{name}`: {what}");
+    let begin = format!("typedef struct {name} {{\n");
+    let (_, rest) = text.split_once(&begin).ok_or_else(|| unread("no typedef"))?;
+    let (body, _) = rest.split_once(&format!("\n}} {name};")).ok_or_else(|| unread("no end"))?;
+    let fields = body.lines().map(field).collect::<Option<Vec<_>>>();
+    let fields = fields.ok_or_else(|| unread("a field"))?;
+    let record = rust_kind(name).ok_or_else(|| unread("its name"))?;
+    let list = |one: &dyn Fn(&str, &str) -> String| -> String {
+        fields.iter().map(|(kind, field)| one(kind, field)).collect()
+    };
+    let declared = list(&|kind, field| format!("{field}: {kind}, "));
+    let taken = list(&|_, field| format!("{field}: header.{field}, "));
+    let placed = list(&|_, field| {
+        format!("    assert!(offset_of!(Header, {field}) == offset_of!({record}, {field}));\n")
+    });
+    Ok(format!(
+        "const _: () = {{\n\
+         \x20   use core::mem::{{offset_of, size_of}};\n\
+         \x20   #[repr(C)]\n\
+         \x20   struct Header {{ {declared}}}\n\
+         \x20   const fn taken(header: Header) -> {record} {{ {record} {{ {taken}}} }}\n\
+         \x20   let _ = taken;\n\
+         {placed}\
+         \x20   assert!(size_of::<Header>() == size_of::<{record}>());\n\
+         }};\n"
+    ))
+}
+
+/// The kind and the name of a line `    uint32_t number;`.
+fn field(line: &str) -> Option<(&'static str, &str)> {
+    let (kind, name) = line.trim().strip_suffix(';')?.split_once(' ')?;
+    Some((rust_kind(kind)?, name)).filter(|_| is_name(name))
 }
 
 fn is_name(text: &str) -> bool {

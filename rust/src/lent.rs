@@ -2,8 +2,9 @@
 //!
 //! Each function passes its slices and numbers on and returns the number that the engine gives: 0
 //! done, any other refused; [`answer`](crate::answer) makes a result of it. A slice of a wrong
-//! length is refused with 1. The types [`Lists`](crate::Lists), [`Rows`](crate::Rows) and
-//! [`Chains`](crate::Chains) own images of the right length and need none of this.
+//! length is refused with 1. The types [`Lists`](crate::Lists), [`Rows`](crate::Rows),
+//! [`Chains`](crate::Chains) and [`Tickets`](crate::Tickets) own images of the right length and need
+//! none of this.
 //!
 //! ```
 //! use rights::lent;
@@ -346,5 +347,119 @@ pub mod chains {
         unsafe {
             ffi::rights_chains_inspect(grants.as_ptr(), grants.len(), loans.as_ptr(), loans.len())
         }
+    }
+}
+
+/// The ticket unit over [`TICKETS_WORDS`](crate::TICKETS_WORDS) words, and its
+/// [`TICKETS_MAX`](crate::TICKETS_MAX) records.
+///
+/// ```
+/// use rights::lent::tickets;
+/// use rights::Ticket;
+///
+/// let mut image = vec![9; rights::TICKETS_WORDS];
+/// assert_eq!(tickets::fresh(&mut image), 0);
+/// assert_eq!(tickets::create(&mut image, 0, 3), 0);
+/// assert_eq!(tickets::create(&mut image, 0, 9), 0);
+/// // Tickets 1 and 2 are those of the two creates.
+/// assert_eq!(tickets::generate(&mut image, 0, 9, 1), (0, 3));
+/// assert_eq!(tickets::generate(&mut image, 3, 9, 1), (rights::NO_TICKET, 0));
+/// assert_eq!(tickets::pass(&mut image, 0, 3, 3), 0);
+/// assert_eq!(tickets::check(&image, 3, 9, 1), (0, 1));
+/// assert_eq!(image[2 + 2 * 3..][..2], [3 + (9 << 32) + (1 << 40), 1 << 0 | 1 << 3]);
+///
+/// let mut records = vec![Ticket::VACANT; rights::TICKETS_MAX];
+/// assert_eq!(tickets::records(&image, &mut records), 0);
+/// let third = Ticket { number: 3, item: 9, right: 1, issuer: 0, holders: 1 << 0 | 1 << 3 };
+/// assert_eq!(tickets::at(&records, 3), third);
+/// assert_eq!(tickets::check_records(&records, 3, 9, 1), (0, 1));
+///
+/// assert_eq!(tickets::remove(&mut image, 0, 3), 0);
+/// assert_eq!(tickets::check(&image, 3, 9, 1), (0, 0));
+/// assert_eq!(tickets::delete(&mut image, 0, 9), 0);
+/// image[1] = 1;
+/// assert_eq!(tickets::inspect(&image), rights::NOT_IN_ORDER);
+/// ```
+pub mod tickets {
+    use crate::{ffi, Ticket};
+
+    /// Makes a fresh unit, whatever the image held.
+    #[must_use]
+    pub fn fresh(image: &mut [u64]) -> u32 {
+        unsafe { ffi::rights_tickets_fresh(image.as_mut_ptr(), image.len()) }
+    }
+
+    /// create (by, on).
+    #[must_use]
+    pub fn create(image: &mut [u64], by: u32, on: u32) -> u32 {
+        unsafe { ffi::rights_tickets_create(image.as_mut_ptr(), image.len(), by, on) }
+    }
+
+    /// generate (by, on, right): the number, and that of the new ticket, 0 beside a refusal.
+    #[must_use]
+    pub fn generate(image: &mut [u64], by: u32, on: u32, right: u32) -> (u32, u32) {
+        let mut ticket = u32::MAX;
+        let (at, length) = (image.as_mut_ptr(), image.len());
+        let number =
+            unsafe { ffi::rights_tickets_generate(at, length, by, on, right, &mut ticket) };
+        (number, ticket)
+    }
+
+    /// pass (by, to, number).
+    #[must_use]
+    pub fn pass(image: &mut [u64], by: u32, to: u32, number: u32) -> u32 {
+        unsafe { ffi::rights_tickets_pass(image.as_mut_ptr(), image.len(), by, to, number) }
+    }
+
+    /// remove (by, number).
+    #[must_use]
+    pub fn remove(image: &mut [u64], by: u32, number: u32) -> u32 {
+        unsafe { ffi::rights_tickets_remove(image.as_mut_ptr(), image.len(), by, number) }
+    }
+
+    /// delete (by, on).
+    #[must_use]
+    pub fn delete(image: &mut [u64], by: u32, on: u32) -> u32 {
+        unsafe { ffi::rights_tickets_delete(image.as_mut_ptr(), image.len(), by, on) }
+    }
+
+    /// check (who, on, right): the number, and 1 for yes or 0 for no.
+    #[must_use]
+    pub fn check(image: &[u64], who: u32, on: u32, right: u32) -> (u32, u32) {
+        let mut yes = u32::MAX;
+        let (at, length) = (image.as_ptr(), image.len());
+        let number = unsafe { ffi::rights_tickets_check(at, length, who, on, right, &mut yes) };
+        (number, yes)
+    }
+
+    /// 0 in order, 1 wrong length, 2 not in order.
+    #[must_use]
+    pub fn inspect(image: &[u64]) -> u32 {
+        unsafe { ffi::rights_tickets_inspect(image.as_ptr(), image.len()) }
+    }
+
+    /// Writes the records of the image, in their places.
+    #[must_use]
+    pub fn records(image: &[u64], tickets: &mut [Ticket]) -> u32 {
+        let (to, places) = (tickets.as_mut_ptr(), tickets.len());
+        unsafe { ffi::rights_tickets_records(image.as_ptr(), image.len(), to, places) }
+    }
+
+    /// The record at a place, from 0 on, of any number of records;
+    /// [`Ticket::VACANT`] past the last one.
+    #[must_use]
+    pub fn at(tickets: &[Ticket], place: usize) -> Ticket {
+        unsafe { ffi::rights_tickets_at(tickets.as_ptr(), tickets.len(), place) }
+    }
+
+    /// check (who, on, right) over the records that [`records`] wrote, whose order it does not
+    /// judge: the number, and 1 for yes or 0 for no.
+    #[must_use]
+    pub fn check_records(tickets: &[Ticket], who: u32, on: u32, right: u32) -> (u32, u32) {
+        let mut yes = u32::MAX;
+        let (at, places) = (tickets.as_ptr(), tickets.len());
+        let number =
+            unsafe { ffi::rights_tickets_check_records(at, places, who, on, right, &mut yes) };
+        (number, yes)
     }
 }

@@ -1,9 +1,9 @@
 //! The Yukirono rights engine for Rust programs.
 //!
-//! [`Lists`], [`Rows`] and [`Chains`] own the images of a unit and pass bytes and numbers to the
-//! engine's C interface; nothing here decides an answer. [`lent`] has the same calls over slices
-//! of any length, [`ffi`] the raw declarations. Sizes, limits, numbers and texts are those of
-//! include/rights.h. Call [`archive_matches_header`] once at start-up.
+//! [`Lists`], [`Rows`], [`Chains`] and [`Tickets`] own the images of a unit and pass bytes and
+//! numbers to the engine's C interface; nothing here decides an answer. [`lent`] has the same calls
+//! over slices of any length, [`ffi`] the raw declarations. Sizes, limits, numbers and texts are
+//! those of include/rights.h. Call [`archive_matches_header`] once at start-up.
 //!
 //! ```
 //! use rights::{Chains, Depth, Item, Refusal, Right};
@@ -33,12 +33,14 @@ mod item_set;
 pub mod lent;
 mod numbers;
 mod refusal;
+mod tickets;
 
 pub use chains::{Chains, CheckAnswer};
 pub use engine::{archive_matches_header, layout_date, version};
 pub use flat::{Lists, Rows};
 pub use item_set::{ItemSet, Items};
-pub use numbers::{Depth, Item, Right, Shift};
+pub use numbers::{Depth, Item, Right, Shift, TicketNumber};
 pub use refusal::{answer, NotARefusal, Refusal};
+pub use tickets::{Ticket, TicketRecords, Tickets};
 
 include!(concat!(env!("OUT_DIR"), "/constants.rs"));

@@ -51,3 +51,17 @@ pub struct Depth(pub u32);
 /// ```
 #[derive(Clone, Copy, Debug, PartialEq, Eq, PartialOrd, Ord, Hash)]
 pub struct Shift(pub u32);
+
+/// The number of a ticket. [`Tickets::generate`](crate::Tickets::generate) gives it; a number that
+/// names no live ticket is refused.
+///
+/// ```
+/// use rights::{Item, Refusal, Right, TicketNumber, Tickets};
+///
+/// let mut unit = Tickets::fresh();
+/// assert_eq!(unit.generate(Item(0), Item(0), Right(1)), Ok(TicketNumber(1)));
+/// assert_eq!(unit.remove(Item(0), TicketNumber(1)), Ok(()));
+/// assert_eq!(unit.remove(Item(0), TicketNumber(1)), Err(Refusal::NoTicket));
+/// ```
+#[derive(Clone, Copy, Debug, PartialEq, Eq, PartialOrd, Ord, Hash)]
+pub struct TicketNumber(pub u32);

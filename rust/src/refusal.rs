@@ -68,6 +68,9 @@ refusals! {
     ShiftBack = SHIFT_BACK,
     LastPast = LAST_PAST,
     EmptySet = EMPTY_SET,
+    TicketsFull = TICKETS_FULL,
+    NumbersSpent = NUMBERS_SPENT,
+    NoTicket = NO_TICKET,
 }
 
 impl fmt::Display for Refusal {

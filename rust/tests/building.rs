@@ -186,7 +186,7 @@ fn unread_header() {
     copy.put_archive("rust/lib");
     let begin = "RIGHTS_NODISCARD uint32_t rights_lists_create(uint64_t *image";
     let edits = [
-        ("(uint64_t *image", "(float *image", "`rights_lists_create(float *image"),
+        ("(uint64_t *image", "(float *image", "`uint32_t rights_lists_create(float *image"),
         ("RIGHTS_NODISCARD ", "", "prototypes, of which"),
         ("rights_lists_create", "rights_Lists_create", "its name"),
     ];
@@ -198,4 +198,41 @@ fn unread_header() {
     copy.edit_header("/* 10000 * major + 100 * minor + patch. */\n", "");
     let output = copy.cargo("rust", Some("lib"), &["check"]);
     assert_fails(&output, &["rights_version", "no comment stands above it"]);
+}
+
+/// A record of the header whose fields are not those of the crate's, in name, kind, number or order,
+/// does not compile; one that cannot be read is told.
+#[test]
+fn other_record() {
+    let copy = Copy::new("record");
+    copy.put_archive("rust/lib");
+    let (item, issuer) = ("    uint8_t item;\n", "    uint16_t issuer;\n");
+    let right = "    uint8_t right;\n";
+    let edits = [
+        (item.to_string(), "    uint16_t item;\n".to_string(), "mismatched types"),
+        (item.to_string(), "    uint8_t thing;\n".to_string(), "thing"),
+        (issuer.to_string(), String::new(), "missing field"),
+        (issuer.to_string(), format!("{issuer}    uint64_t since;\n"), "since"),
+        (format!("{item}{right}"), format!("{right}{item}"), "offset_of"),
+        (
+            item.to_string(),
+            "    float item;\n".to_string(),
+            "cannot read the record `rights_ticket`",
+        ),
+        ("typedef struct".to_string(), "struct".to_string(), "cannot read the record"),
+    ];
+    for (from, to, says) in edits {
+        copy.edit_header(&from, &to);
+        let output = copy.cargo("rust", Some("lib"), &["check"]);
+        assert_fails(&output, &[says]);
+    }
+    copy.edit_header(
+        "RIGHTS_NODISCARD rights_ticket rights_tickets_at",
+        "rights_ticket rights_tickets_at",
+    );
+    let output = copy.cargo("rust", Some("lib"), &["check"]);
+    assert_fails(&output, &["prototypes, of which"]);
+    copy.edit_header("RIGHTS_NODISCARD rights_ticket", "RIGHTS_NODISCARD rights_other");
+    let output = copy.cargo("rust", Some("lib"), &["check"]);
+    assert_fails(&output, &["its result"]);
 }

@@ -9,8 +9,11 @@ use std::os::unix::process::ExitStatusExt;
 use std::process::Command;
 
 use guarded::{Guarded, Side, SIDES};
-use model::{image_of, loans_image, Grant, GrantLayout, Journal, ListLayout, Loan, RowLayout};
-use rights::ffi;
+use model::{
+    image_of, loans_image, ticket_image, Grant, GrantLayout, Journal, ListLayout, Loan, RowLayout,
+    TicketState,
+};
+use rights::{ffi, Ticket};
 
 /// Names the access that the process is to make.
 const ACCESS: &str = "RIGHTS_TEST_ACCESS";
@@ -125,6 +128,65 @@ fn chains() {
             chain.assert_holds(&held, "a check");
             depth.assert_holds(&[deep], "a check");
             persons.assert_holds(&[count], "a check");
+        }
+    }
+}
+
+/// The ticket unit's check, that over records, and generate, by the raw declarations.
+#[test]
+fn tickets() {
+    let image = ticket_image(&TicketState::fresh());
+    let first = Ticket { number: 0, item: 0, right: 0, issuer: 0, holders: 1 };
+    let mut records = vec![Ticket::VACANT; 1024];
+    records[0] = first;
+    for side in SIDES {
+        for (words, right, number, said) in
+            [(2050, 0, 0, 1), (2050, 1, 0, 0), (2050, 8, 3, 0), (0, 0, 1, 0)]
+        {
+            let mut yes = Guarded::new(&[9u32], side);
+            // SAFETY: pointers to an image, with its length or less, and to a number.
+            let given = unsafe {
+                ffi::rights_tickets_check(image.as_ptr(), words, 0, 0, right, yes.pointer())
+            };
+            assert_eq!(given, number);
+            yes.assert_holds(&[said], "a check");
+            let (mut yes, places) = (Guarded::new(&[9u32], side), words.min(1024));
+            // SAFETY: pointers to records, with their number or less, and to a number.
+            let given = unsafe {
+                let at = records.as_ptr();
+                ffi::rights_tickets_check_records(at, places, 0, 0, right, yes.pointer())
+            };
+            assert_eq!(given, number);
+            yes.assert_holds(&[said], "a check of records");
+        }
+        for (words, right, number, said) in [(2050, 7, 0, 1), (2050, 8, 3, 0), (0, 0, 1, 0)] {
+            let (mut image, mut ticket) = (image.clone(), Guarded::new(&[9u32], side));
+            // SAFETY: as of the check, and the image may be written.
+            let given = unsafe {
+                let at = image.as_mut_ptr();
+                ffi::rights_tickets_generate(at, words, 0, 0, right, ticket.pointer())
+            };
+            assert_eq!(given, number);
+            ticket.assert_holds(&[said], "generate");
+        }
+    }
+}
+
+/// No record is read but the one at the place: one record between guard pages, and none.
+#[test]
+fn ticket_at() {
+    let record = Ticket { number: 1, item: 2, right: 3, issuer: 4, holders: 5 };
+    for side in SIDES {
+        for place in [0, 1, 2, 1023, 1024, usize::MAX / 16, usize::MAX] {
+            let mut one = Guarded::new(&[record], side);
+            let due = if place == 0 { record } else { Ticket::VACANT };
+            // SAFETY: a pointer to one record, and its number.
+            assert_eq!(unsafe { ffi::rights_tickets_at(one.pointer(), 1, place) }, due);
+            one.assert_holds(&[record], "a look");
+            let none = Guarded::new(&[] as &[Ticket], side);
+            // SAFETY: a pointer to no record.
+            let found = unsafe { ffi::rights_tickets_at(none.pointer(), 0, place) };
+            assert_eq!(found, Ticket::VACANT);
         }
     }
 }

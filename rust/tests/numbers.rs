@@ -31,7 +31,7 @@ fn refusals_are_the_headers() {
     let header = header();
     let cases = cases(&header);
     assert_eq!(cases[0], (0, "done"));
-    assert!(cases.len() > 14);
+    assert!(cases.len() > 17);
     for &(number, text) in &cases[1..] {
         let refusal = Refusal::try_from(number).expect(text);
         assert_eq!((refusal.number(), refusal.text()), (number, text));
@@ -62,6 +62,9 @@ fn refusals_by_name() {
     let later = [Refusal::Malformed, Refusal::ShiftBack, Refusal::LastPast, Refusal::EmptySet];
     assert_eq!(Refusal::ALL[10..14], later);
     assert_eq!(later.map(Refusal::number), [11, 12, 13, 14]);
+    let tickets = [Refusal::TicketsFull, Refusal::NumbersSpent, Refusal::NoTicket];
+    assert_eq!(Refusal::ALL[14..17], tickets);
+    assert_eq!(tickets.map(Refusal::number), [15, 16, 17]);
 }
 
 #[test]

@@ -4,8 +4,14 @@
 mod model;
 
 use model::commands::{allow, allow_set, create, delete, drop, lend, recall, shift, withdraw};
-use model::{image_of, loans_image, Command, GrantLayout, Journal, ListLayout, RowLayout};
-use rights::{answer, lent, Chains, Depth, Item, ItemSet, Lists, Refusal, Right, Rows, Shift};
+use model::{
+    image_of, loans_image, ticket_image, Command, GrantLayout, Journal, ListLayout, RowLayout,
+    TicketCommand, TicketState,
+};
+use rights::{
+    answer, lent, Chains, Depth, Item, ItemSet, Lists, Refusal, Right, Rows, Shift, Ticket,
+    TicketNumber, Tickets,
+};
 
 /// A type that owns its images.
 trait Owned {
@@ -425,5 +431,163 @@ mod chains {
         made.assert_says(&journal);
         let refused = Chains::boxed_from_images(unit.grants(), &unit.loans()[1..]);
         assert_eq!(refused.expect_err("refused"), Refusal::WrongLength);
+    }
+}
+
+mod tickets {
+    use super::*;
+
+    static UNIT: std::sync::Mutex<Tickets> = std::sync::Mutex::new(Tickets::fresh());
+
+    fn by_method(unit: &mut Tickets, command: TicketCommand) -> Result<u32, Refusal> {
+        match command {
+            TicketCommand::Create { by, on } => unit.create(Item(by), Item(on)).map(|()| 0),
+            TicketCommand::Generate { by, on, right } => {
+                unit.generate(Item(by), Item(on), Right(right)).map(|number| number.0)
+            }
+            TicketCommand::Pass { by, to, number } => {
+                unit.pass(Item(by), Item(to), TicketNumber(number)).map(|()| 0)
+            }
+            TicketCommand::Remove { by, number } => {
+                unit.remove(Item(by), TicketNumber(number)).map(|()| 0)
+            }
+            TicketCommand::Delete { by, on } => unit.delete(Item(by), Item(on)).map(|()| 0),
+        }
+    }
+
+    /// Both answer alike, and the image is the state's after each.
+    #[track_caller]
+    fn give(unit: &mut Tickets, state: &mut TicketState, commands: &[TicketCommand]) {
+        for &command in commands {
+            let (number, ticket) = state.give(command);
+            let answered = by_method(unit, command);
+            assert_eq!(answered, answer(number).map(|()| ticket), "{command:?}");
+            assert!(unit.image()[..] == ticket_image(state), "{command:?}");
+        }
+    }
+
+    /// Items 3, 5, 9 and 12 live, and 3 made 9; 3 issues ticket 5 of right 6 there and passes it to
+    /// 12, who passes it to 5.
+    const COMMANDS: [TicketCommand; 7] = [
+        TicketCommand::Create { by: 0, on: 3 },
+        TicketCommand::Create { by: 0, on: 5 },
+        TicketCommand::Create { by: 3, on: 9 },
+        TicketCommand::Create { by: 0, on: 12 },
+        TicketCommand::Generate { by: 3, on: 9, right: 6 },
+        TicketCommand::Pass { by: 3, to: 12, number: 5 },
+        TicketCommand::Pass { by: 12, to: 5, number: 5 },
+    ];
+
+    fn made() -> (Tickets, TicketState) {
+        let (mut unit, mut state) = (Tickets::fresh(), TicketState::fresh());
+        give(&mut unit, &mut state, &COMMANDS);
+        (unit, state)
+    }
+
+    /// The cells written out in the crate are those that the engine writes.
+    #[test]
+    fn fresh() {
+        let mut image = [9; 2050];
+        assert_eq!(lent::tickets::fresh(&mut image), 0);
+        assert!(Tickets::fresh().image() == &image && Tickets::default().image() == &image);
+        assert!(UNIT.lock().expect("the unit").image() == &image);
+    }
+
+    #[test]
+    fn commands() {
+        let (mut unit, mut state) = made();
+        let refused = [
+            (TicketCommand::Create { by: 0, on: 64 }, Refusal::OutOfRange),
+            (TicketCommand::Create { by: 7, on: 8 }, Refusal::ByDead),
+            (TicketCommand::Create { by: 0, on: 3 }, Refusal::AlreadyLive),
+            (TicketCommand::Generate { by: 3, on: 7, right: 1 }, Refusal::NamedDead),
+            (TicketCommand::Generate { by: 12, on: 9, right: 1 }, Refusal::NoTicket),
+            (TicketCommand::Generate { by: 3, on: 9, right: 8 }, Refusal::OutOfRange),
+            (TicketCommand::Pass { by: 3, to: 7, number: 5 }, Refusal::NamedDead),
+            (TicketCommand::Pass { by: 0, to: 3, number: 5 }, Refusal::NoTicket),
+            (TicketCommand::Remove { by: 12, number: 5 }, Refusal::NoTicket),
+            (TicketCommand::Remove { by: 3, number: 6 }, Refusal::NoTicket),
+            (TicketCommand::Delete { by: 3, on: 0 }, Refusal::RootItem),
+            (TicketCommand::Delete { by: 12, on: 9 }, Refusal::NoTicket),
+        ];
+        for (command, refusal) in refused {
+            assert_eq!(by_method(&mut unit, command), Err(refusal), "{command:?}");
+            give(&mut unit, &mut state, &[command]);
+        }
+        let generate = TicketCommand::Generate { by: 3, on: 9, right: 1 };
+        give(&mut unit, &mut state, &[TicketCommand::Remove { by: 3, number: 5 }, generate]);
+        give(&mut unit, &mut state, &[TicketCommand::Delete { by: 3, on: 9 }]);
+    }
+
+    /// 15 and 16 by their names.
+    #[test]
+    fn full_and_spent() {
+        let (mut unit, _) = made();
+        for n in 6..1024 {
+            assert_eq!(unit.generate(Item(3), Item(9), Right(n % 8)), Ok(TicketNumber(n)));
+        }
+        assert_eq!(unit.generate(Item(3), Item(9), Right(1)), Err(Refusal::TicketsFull));
+        assert_eq!(unit.create(Item(3), Item(60)), Err(Refusal::TicketsFull));
+        assert_eq!(unit.records().live().count(), 1024);
+        let mut image = *unit.image();
+        image[1] = 4_294_967_295;
+        let mut unit = Tickets::from_image(&image).expect("in order");
+        assert_eq!(unit.remove(Item(3), TicketNumber(1000)), Ok(()));
+        assert_eq!(unit.generate(Item(3), Item(9), Right(1)), Err(Refusal::NumbersSpent));
+        assert_eq!(unit.create(Item(3), Item(60)), Err(Refusal::NumbersSpent));
+    }
+
+    #[test]
+    fn check() {
+        let (unit, _) = made();
+        let records = unit.records();
+        for (who, on, right, due) in [
+            (12, 9, 6, Ok(true)),
+            (5, 9, 6, Ok(true)),
+            (3, 9, 6, Ok(true)),
+            (9, 12, 6, Ok(false)),
+            (12, 9, 5, Ok(false)),
+            (0, 9, 6, Ok(false)),
+            (64, 9, 6, Err(Refusal::OutOfRange)),
+            (12, 64, 6, Err(Refusal::OutOfRange)),
+            (12, 9, 8, Err(Refusal::OutOfRange)),
+        ] {
+            assert_eq!(unit.check(Item(who), Item(on), Right(right)), due);
+            assert_eq!(records.check(Item(who), Item(on), Right(right)), due);
+        }
+    }
+
+    #[test]
+    fn records() {
+        let (unit, state) = made();
+        let records = unit.records();
+        let holders = 1 << 3 | 1 << 5 | 1 << 12;
+        let fifth = Ticket { number: 5, item: 9, right: 6, issuer: 3, holders };
+        assert_eq!((records.at(5), records.at(6)), (fifth, Ticket::VACANT));
+        assert_eq!((records.at(1024), records.at(usize::MAX)), (Ticket::VACANT, Ticket::VACANT));
+        assert!(fifth.lives() && !Ticket::VACANT.lives());
+        assert_eq!(Ticket::default(), Ticket::VACANT);
+        assert!(records.live().map(|ticket| ticket.number).eq(0..6));
+        assert!(records.iter().eq(&records) && records.iter().eq(records.as_array()));
+        assert_eq!(records.as_array().len(), 1024);
+        assert_eq!(state.tickets.len(), 6);
+        let told = format!("{:?}", Tickets::fresh().records());
+        assert_eq!(told, "{0: Ticket { number: 0, item: 0, right: 0, issuer: 0, holders: 1 }}");
+    }
+
+    #[test]
+    fn stored() {
+        let (unit, state) = made();
+        let mut image = unit.image().to_vec();
+        assert!(Tickets::from_image(&image).expect("in order") == unit);
+        assert!(unit.clone().image()[..] == ticket_image(&state));
+        let refused = |image: &[u64]| Tickets::from_image(image).expect_err("refused");
+        assert_eq!(refused(&image[1..]), Refusal::WrongLength);
+        assert_eq!(refused(&[]), Refusal::WrongLength);
+        image.push(0);
+        assert_eq!(refused(&image), Refusal::WrongLength);
+        image.pop();
+        image[1] = 5;
+        assert_eq!(refused(&image), Refusal::NotInOrder);
     }
 }

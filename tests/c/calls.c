@@ -14,6 +14,7 @@
 enum { ROOT = 0, OWNER = 5, HOLDER = 11, BORROWER = 47, DRAWER = 23, DEAD = 60 };
 enum { RIGHT = 3, SET_RIGHT = 4, DEPTH = 6, LOAN_DEPTH = 2, LAST = 200 };
 enum { LISTS_SIZE = 8 * RIGHTS_LISTS_WORDS, LOANS_SIZE = 4 * RIGHTS_LOANS_WORDS };
+enum { TICKETS_SIZE = 8 * RIGHTS_TICKETS_WORDS, RECORDS_SIZE = 16 * RIGHTS_TICKETS_MAX };
 
 /* A set of items: bit i for item i. One of these three stands in the upper half. */
 #define MEMBER(item) ((uint64_t)1 << (item))
@@ -24,6 +25,8 @@ static uint64_t lists[RIGHTS_LISTS_WORDS], lists_due[RIGHTS_LISTS_WORDS];
 static uint8_t rows[RIGHTS_ROWS_BYTES], rows_due[RIGHTS_ROWS_BYTES];
 static uint8_t grants[RIGHTS_GRANTS_BYTES], grants_due[RIGHTS_GRANTS_BYTES];
 static uint32_t loans[RIGHTS_LOANS_WORDS], loans_due[RIGHTS_LOANS_WORDS];
+static uint64_t tickets[RIGHTS_TICKETS_WORDS], tickets_due[RIGHTS_TICKETS_WORDS];
+static rights_ticket records[RIGHTS_TICKETS_MAX], records_due[RIGHTS_TICKETS_MAX];
 
 static unsigned compared, differences;
 
@@ -53,6 +56,8 @@ static void returned(const char *call, uint32_t number, uint32_t due)
     same_bytes(call, "the rows image", rows, rows_due, RIGHTS_ROWS_BYTES);
     same_bytes(call, "the grants image", grants, grants_due, RIGHTS_GRANTS_BYTES);
     same_bytes(call, "the loans image", loans, loans_due, LOANS_SIZE);
+    same_bytes(call, "the tickets image", tickets, tickets_due, TICKETS_SIZE);
+    same_bytes(call, "the records", records, records_due, RECORDS_SIZE);
 }
 
 /* ---- what a buffer must hold, by the header's layouts: an item lives or not, a grant stands or not */
@@ -700,6 +705,387 @@ static void lenders_limits(void)
     returned("chains withdraw, the least", rights_chains_withdraw(UNIT, ROOT, ROOT, ROOT, 1), 0);
 }
 
+/* ---- the ticket unit. Its tickets lie at places, and their numbers are those of the calls that issued them. */
+
+#define TICKETS tickets, RIGHTS_TICKETS_WORDS
+#define SHORT_TICKETS tickets, RIGHTS_TICKETS_WORDS - 1
+#define RECORDS records, RIGHTS_TICKETS_MAX
+
+static void tickets_item(unsigned item, int lives) { word_bit(tickets_due, 0, item, lives); }
+
+/* What a place holds, by the header's layout: a ticket, or with no holders nothing. */
+static void tickets_place(unsigned place, uint64_t number, uint64_t item, uint64_t right, uint64_t issuer, uint64_t holders)
+{
+    tickets_due[2 + 2 * place] = number + item * 4294967296u + right * 1099511627776u + issuer * 281474976710656u;
+    tickets_due[3 + 2 * place] = holders;
+}
+
+static void tickets_vacant(unsigned place) { tickets_place(place, 0, 0, 0, 0, 0); }
+
+static rights_ticket record(uint32_t number, unsigned item, unsigned right, unsigned issuer, uint64_t holders)
+{
+    rights_ticket made;
+    made.number = number;
+    made.item = (uint8_t)item;
+    made.right = (uint8_t)right;
+    made.issuer = (uint16_t)issuer;
+    made.holders = holders;
+    return made;
+}
+
+static void same_record(const char *call, rights_ticket given, rights_ticket due)
+{
+    same(call, "the record's number", given.number, due.number);
+    same(call, "the record's item", given.item, due.item);
+    same(call, "the record's right", given.right, due.right);
+    same(call, "the record's issuer", given.issuer, due.issuer);
+    same(call, "the record's holders", given.holders, due.holders);
+}
+
+/* The ticket of a create lies at the place given, and has the number given. */
+static void tickets_create(unsigned by, unsigned on, unsigned place, uint32_t number)
+{
+    tickets_item(on, 1);
+    tickets_place(place, number, on, 0, by, MEMBER(by));
+    tickets_due[1] = (uint64_t)number + 1;
+    returned("tickets create", rights_tickets_create(TICKETS, by, on), 0);
+}
+
+static void tickets_generate(unsigned by, unsigned on, unsigned right, unsigned place, uint32_t number)
+{
+    uint32_t given = 77;
+    tickets_place(place, number, on, right, by, MEMBER(by));
+    tickets_due[1] = (uint64_t)number + 1;
+    returned("tickets generate", rights_tickets_generate(TICKETS, by, on, right, &given), 0);
+    same("tickets generate", "the ticket", given, number);
+}
+
+/* A generate that is refused gives 0 back. */
+static void tickets_refuse(const char *call, uint32_t by, uint32_t on, uint32_t right, uint32_t due)
+{
+    uint32_t given = 77;
+    returned(call, rights_tickets_generate(TICKETS, by, on, right, &given), due);
+    same(call, "the ticket", given, 0);
+}
+
+static void tickets_check(const char *call, uint32_t who, uint32_t on, uint32_t right, uint32_t number_due, uint32_t yes_due)
+{
+    uint32_t yes = 77;
+    returned(call, rights_tickets_check(TICKETS, who, on, right, &yes), number_due);
+    same(call, "yes", yes, yes_due);
+}
+
+/* A fresh unit, whatever its buffer held; ticket 4 is the owner's on the drawer, 5 opens it and is passed on twice. */
+static void tickets_start(void)
+{
+    memset(tickets, 0xa5, sizeof tickets);
+    memset(tickets_due, 0, sizeof tickets_due);
+    tickets_item(ROOT, 1);
+    tickets_due[1] = 1;
+    tickets_place(0, 0, ROOT, 0, ROOT, MEMBER(ROOT));
+    returned("tickets fresh", rights_tickets_fresh(TICKETS), 0);
+    tickets_create(ROOT, OWNER, 1, 1);
+    tickets_create(ROOT, HOLDER, 2, 2);
+    tickets_create(ROOT, BORROWER, 3, 3);
+    tickets_create(OWNER, DRAWER, 4, 4);
+    tickets_generate(OWNER, DRAWER, RIGHT, 5, 5);
+    tickets_place(5, 5, DRAWER, RIGHT, OWNER, MEMBER(OWNER) | MEMBER(HOLDER));
+    returned("tickets pass", rights_tickets_pass(TICKETS, OWNER, HOLDER, 5), 0);
+    tickets_place(5, 5, DRAWER, RIGHT, OWNER, MEMBER(OWNER) | MEMBER(HOLDER) | MEMBER(BORROWER));
+    returned("tickets pass", rights_tickets_pass(TICKETS, HOLDER, BORROWER, 5), 0);
+    returned("tickets pass, to a holder", rights_tickets_pass(TICKETS, BORROWER, HOLDER, 5), 0);
+}
+
+static void tickets_answers(void)
+{
+    tickets_check("tickets check", HOLDER, DRAWER, RIGHT, 0, 1);
+    tickets_check("tickets check, passed on twice", BORROWER, DRAWER, RIGHT, 0, 1);
+    tickets_check("tickets check, no", ROOT, DRAWER, RIGHT, 0, 0);
+    tickets_check("tickets check, another right", HOLDER, DRAWER, SET_RIGHT, 0, 0);
+    tickets_check("tickets check, another item", HOLDER, OWNER, RIGHT, 0, 0);
+    tickets_check("tickets check, dead", DEAD, DRAWER, RIGHT, 0, 0);
+    tickets_check("tickets check, who 64", 64, DRAWER, RIGHT, 3, 0);
+    tickets_check("tickets check, on 64", HOLDER, 64, RIGHT, 3, 0);
+    tickets_check("tickets check, right 8", HOLDER, DRAWER, 8, 3, 0);
+    returned("tickets inspect", rights_tickets_inspect(TICKETS), 0);
+}
+
+/* The records of the image, one of them, and the check over them. */
+static void tickets_records(void)
+{
+    const uint64_t holders = MEMBER(OWNER) | MEMBER(HOLDER) | MEMBER(BORROWER);
+    uint32_t yes = 77;
+    same("tickets", "the bytes of a record", sizeof(rights_ticket), 16);
+    same("tickets", "the bytes of the records", sizeof records, RECORDS_SIZE);
+    memset(records, 0xa5, sizeof records);
+    memset(records_due, 0, sizeof records_due);
+    records_due[0] = record(0, ROOT, 0, ROOT, MEMBER(ROOT));
+    records_due[1] = record(1, OWNER, 0, ROOT, MEMBER(ROOT));
+    records_due[2] = record(2, HOLDER, 0, ROOT, MEMBER(ROOT));
+    records_due[3] = record(3, BORROWER, 0, ROOT, MEMBER(ROOT));
+    records_due[4] = record(4, DRAWER, 0, OWNER, MEMBER(OWNER));
+    records_due[5] = record(5, DRAWER, RIGHT, OWNER, holders);
+    returned("tickets records", rights_tickets_records(TICKETS, RECORDS), 0);
+    same_bytes("tickets records", "the image's memory", tickets + 2, records, RECORDS_SIZE);
+    same_record("tickets at 5", rights_tickets_at(RECORDS, 5), record(5, DRAWER, RIGHT, OWNER, holders));
+    same_record("tickets at 1,023", rights_tickets_at(RECORDS, 1023), record(0, 0, 0, 0, 0));
+    same_record("tickets at 1,024", rights_tickets_at(RECORDS, 1024), record(0, 0, 0, 0, 0));
+    same_record("tickets at 2^32 + 5", rights_tickets_at(RECORDS, (size_t)4294967296u + 5), record(0, 0, 0, 0, 0));
+    same_record("tickets at the greatest", rights_tickets_at(RECORDS, SIZE_MAX), record(0, 0, 0, 0, 0));
+    same_record("tickets at 4 of 5", rights_tickets_at(records, 5, 4), record(4, DRAWER, 0, OWNER, MEMBER(OWNER)));
+    same_record("tickets at 5 of 5", rights_tickets_at(records, 5, 5), record(0, 0, 0, 0, 0));
+    same_record("tickets at 0 of 0", rights_tickets_at(records, 0, 0), record(0, 0, 0, 0, 0));
+    returned("tickets check of records", rights_tickets_check_records(RECORDS, HOLDER, DRAWER, RIGHT, &yes), 0);
+    same("tickets check of records", "yes", yes, 1);
+    yes = 77;
+    returned("tickets check of records", rights_tickets_check_records(RECORDS, ROOT, DRAWER, RIGHT, &yes), 0);
+    same("tickets check of records, no", "yes", yes, 0);
+    yes = 77;
+    returned("tickets check of records, right 8", rights_tickets_check_records(RECORDS, HOLDER, DRAWER, 8, &yes), 3);
+    same("tickets check of records, right 8", "yes", yes, 0);
+    yes = 77;
+    returned("tickets check of records, places", rights_tickets_check_records(records, 1023, HOLDER, DRAWER, RIGHT, &yes), 1);
+    same("tickets check of records, places", "yes", yes, 0);
+    returned("tickets records, places", rights_tickets_records(TICKETS, records, RIGHTS_TICKETS_MAX - 1), 1);
+    returned("tickets records, length", rights_tickets_records(SHORT_TICKETS, RECORDS), 1);
+}
+
+/* The records as the image has them now, by the header's layout, and a check over them. */
+static void tickets_reread(const char *call, uint32_t who, uint32_t yes_due)
+{
+    uint32_t yes = 77;
+    for (unsigned place = 0; place < RIGHTS_TICKETS_MAX; place++) {
+        uint64_t word = tickets_due[2 + 2 * place];
+        records_due[place] = record((uint32_t)(word % 4294967296u), word / 4294967296u % 256, word / 1099511627776u % 256,
+                                    (unsigned)(word / 281474976710656u), tickets_due[3 + 2 * place]);
+    }
+    returned(call, rights_tickets_records(TICKETS, RECORDS), 0);
+    returned(call, rights_tickets_check_records(RECORDS, who, DRAWER, RIGHT, &yes), 0);
+    same(call, "yes", yes, yes_due);
+}
+
+/* The numbers of each command in their order; where two apply, the first. */
+static void tickets_refusals(void)
+{
+    returned("tickets create, by 64", rights_tickets_create(TICKETS, 64, OWNER), 3);
+    returned("tickets create, on 64", rights_tickets_create(TICKETS, ROOT, 64), 3);
+    returned("tickets create, by dead", rights_tickets_create(TICKETS, DEAD, OWNER), 4);
+    returned("tickets create, on lives", rights_tickets_create(TICKETS, ROOT, OWNER), 6);
+    tickets_refuse("tickets generate, right 8", OWNER, DRAWER, 8, 3);
+    tickets_refuse("tickets generate, on 64", OWNER, 64, RIGHT, 3);
+    tickets_refuse("tickets generate, by dead", DEAD, DEAD, RIGHT, 4);
+    tickets_refuse("tickets generate, on dead", OWNER, DEAD, RIGHT, 5);
+    tickets_refuse("tickets generate, by a holder", HOLDER, DRAWER, RIGHT, 17);
+    tickets_refuse("tickets generate, by the root", ROOT, DRAWER, RIGHT, 17);
+    returned("tickets pass, to 64", rights_tickets_pass(TICKETS, OWNER, 64, 5), 3);
+    returned("tickets pass, by dead", rights_tickets_pass(TICKETS, DEAD, DEAD, 5), 4);
+    returned("tickets pass, to dead", rights_tickets_pass(TICKETS, OWNER, DEAD, 9), 5);
+    returned("tickets pass, not held", rights_tickets_pass(TICKETS, HOLDER, OWNER, 4), 17);
+    returned("tickets pass, by the root", rights_tickets_pass(TICKETS, ROOT, OWNER, 5), 17);
+    returned("tickets pass, no such number", rights_tickets_pass(TICKETS, OWNER, HOLDER, 6), 17);
+    returned("tickets pass, the greatest number", rights_tickets_pass(TICKETS, OWNER, HOLDER, UINT32_MAX), 17);
+    returned("tickets remove, by 64", rights_tickets_remove(TICKETS, 64, 5), 3);
+    returned("tickets remove, by dead", rights_tickets_remove(TICKETS, DEAD, 9), 4);
+    returned("tickets remove, by a holder", rights_tickets_remove(TICKETS, HOLDER, 5), 17);
+    returned("tickets remove, by the root", rights_tickets_remove(TICKETS, ROOT, 5), 17);
+    returned("tickets remove, no such number", rights_tickets_remove(TICKETS, OWNER, 6), 17);
+    returned("tickets delete, on 64", rights_tickets_delete(TICKETS, OWNER, 64), 3);
+    returned("tickets delete, by dead", rights_tickets_delete(TICKETS, DEAD, ROOT), 4);
+    returned("tickets delete, on dead", rights_tickets_delete(TICKETS, OWNER, DEAD), 5);
+    returned("tickets delete, the root", rights_tickets_delete(TICKETS, OWNER, ROOT), 7);
+    returned("tickets delete, by a holder", rights_tickets_delete(TICKETS, HOLDER, DRAWER), 17);
+    returned("tickets delete, by the root", rights_tickets_delete(TICKETS, ROOT, DRAWER), 17);
+}
+
+/* Every call of the unit is refused so, whatever its other numbers are. */
+static void tickets_all(const char *call, uint64_t *image, size_t words, uint32_t due)
+{
+    uint32_t number = 77, yes = 77;
+    returned(call, rights_tickets_create(image, words, 64, DEAD), due);
+    returned(call, rights_tickets_generate(image, words, 64, DRAWER, RIGHT, &number), due);
+    same(call, "the ticket", number, 0);
+    returned(call, rights_tickets_pass(image, words, 64, HOLDER, 5), due);
+    returned(call, rights_tickets_remove(image, words, 64, 5), due);
+    returned(call, rights_tickets_delete(image, words, 64, DRAWER), due);
+    returned(call, rights_tickets_check(image, words, 64, DRAWER, RIGHT, &yes), due);
+    same(call, "yes", yes, 0);
+    returned(call, rights_tickets_inspect(image, words), due);
+    returned(call, rights_tickets_records(image, words, RECORDS), due);
+}
+
+/* One word more than the image has, and the image in front of it; one record more than there are places. */
+static void tickets_longer(void)
+{
+    static uint64_t longer[RIGHTS_TICKETS_WORDS + 1];
+    static rights_ticket more[RIGHTS_TICKETS_MAX + 1], more_due[RIGHTS_TICKETS_MAX + 1];
+    returned("tickets records, one more", rights_tickets_records(TICKETS, more, RIGHTS_TICKETS_MAX + 1), 1);
+    same_bytes("tickets records, one more", "the records", more, more_due, sizeof more);
+    memcpy(longer, tickets, sizeof tickets);
+    tickets_all("tickets, one word more", longer, RIGHTS_TICKETS_WORDS + 1, 1);
+    returned("tickets fresh, one word more", rights_tickets_fresh(longer, RIGHTS_TICKETS_WORDS + 1), 1);
+    same_bytes("tickets, one word more", "the image", longer, tickets_due, TICKETS_SIZE);
+    same("tickets, one word more", "the last word", longer[RIGHTS_TICKETS_WORDS], 0);
+}
+
+/* Nothing is wrong with the image but that item 0 is dead: its one ticket is the owner's, on the owner. */
+static void tickets_rootless(void)
+{
+    static uint64_t before[RIGHTS_TICKETS_WORDS];
+    memcpy(before, tickets, sizeof tickets);
+    memset(tickets_due, 0, sizeof tickets_due);
+    tickets_item(OWNER, 1);
+    tickets_due[1] = 100;
+    tickets_place(0, 0, OWNER, 0, OWNER, MEMBER(OWNER));
+    memcpy(tickets, tickets_due, sizeof tickets);
+    tickets_all("tickets, the root item dead and not named", TICKETS, 2);
+    returned("tickets records, order and places", rights_tickets_records(TICKETS, records, RIGHTS_TICKETS_MAX - 1), 1);
+    memcpy(tickets, before, sizeof tickets);
+    memcpy(tickets_due, before, sizeof tickets);
+}
+
+/* A clause of in order is broken alone, in a word that is put back. */
+static void tickets_broken(const char *call, unsigned word, uint64_t content)
+{
+    uint64_t before = tickets[word];
+    tickets[word] = tickets_due[word] = content;
+    tickets_all(call, TICKETS, 2);
+    tickets[word] = tickets_due[word] = before;
+}
+
+static void tickets_order(void)
+{
+    const unsigned fifth = 12, next_to_last = 2 + 2 * 1022, last = 2 + 2 * 1023;
+    const uint64_t word = tickets_due[12];
+    tickets_all("tickets, length", SHORT_TICKETS, 1);
+    tickets_all("tickets, no length", tickets, 0, 1);
+    returned("tickets fresh, length", rights_tickets_fresh(SHORT_TICKETS), 1);
+    tickets_longer();
+    tickets_rootless();
+    tickets_broken("tickets, the root item dead", 0, tickets_due[0] & ~MEMBER(ROOT));
+    tickets_broken("tickets, the next beyond", 1, 4294967296u);
+    tickets_broken("tickets, the greatest number is the next", 1, 5);
+    tickets_broken("tickets, no holder", fifth + 1, 0);
+    tickets_broken("tickets, a dead holder", fifth + 1, MEMBER(OWNER) | MEMBER(DEAD));
+    tickets_broken("tickets, a dead item", fifth, word + (uint64_t)(DEAD - DRAWER) * 4294967296u);
+    tickets_broken("tickets, item 64", fifth, word + (uint64_t)(64 - DRAWER) * 4294967296u);
+    tickets_broken("tickets, right 8", fifth, word + (uint64_t)(8 - RIGHT) * 1099511627776u);
+    tickets_broken("tickets, right 16 higher", fifth, word + (uint64_t)16 * 1099511627776u);
+    tickets_broken("tickets, issuer 64", fifth, word + (uint64_t)(64 - OWNER) * 281474976710656u);
+    tickets_broken("tickets, issuer 256 higher", fifth, word + (uint64_t)256 * 281474976710656u);
+    tickets_broken("tickets, a number twice", fifth, word - 1);
+    tickets_broken("tickets, the next number", fifth, word + 1);
+    tickets_broken("tickets, a number without a holder", last, 1);
+    tickets_broken("tickets, an issuer without a holder", next_to_last, 281474976710656u);
+    tickets_broken("tickets, an item without a holder", last, 4294967296u);
+    tickets_broken("tickets, a right without a holder", last, 1099511627776u);
+    tickets_broken("tickets, ticket 0 again at the last place", last + 1, 1);
+    returned("tickets inspect, again", rights_tickets_inspect(TICKETS), 0);
+}
+
+/*
+ * The owner issues a second ticket of the right, which stays; with the first goes the right of those who had that alone. The owner is
+ * deleted and made again: its tickets end but where others hold them, and it holds none.
+ */
+static void tickets_endings(void)
+{
+    tickets_generate(OWNER, DRAWER, RIGHT, 6, 6);
+    tickets_place(6, 6, DRAWER, RIGHT, OWNER, MEMBER(OWNER) | MEMBER(BORROWER));
+    returned("tickets pass", rights_tickets_pass(TICKETS, OWNER, BORROWER, 6), 0);
+    tickets_vacant(5);
+    returned("tickets remove", rights_tickets_remove(TICKETS, OWNER, 5), 0);
+    returned("tickets remove, again", rights_tickets_remove(TICKETS, OWNER, 5), 17);
+    tickets_check("tickets check, removed", HOLDER, DRAWER, RIGHT, 0, 0);
+    tickets_check("tickets check, another ticket", BORROWER, DRAWER, RIGHT, 0, 1);
+    tickets_place(4, 4, DRAWER, 0, OWNER, MEMBER(OWNER) | MEMBER(HOLDER));
+    returned("tickets pass, edit", rights_tickets_pass(TICKETS, OWNER, HOLDER, 4), 0);
+    tickets_generate(HOLDER, DRAWER, RIGHT, 5, 7);
+    tickets_item(OWNER, 0);
+    tickets_vacant(1);
+    tickets_place(4, 4, DRAWER, 0, OWNER, MEMBER(HOLDER));
+    tickets_place(6, 6, DRAWER, RIGHT, OWNER, MEMBER(BORROWER));
+    returned("tickets delete, an issuer", rights_tickets_delete(TICKETS, ROOT, OWNER), 0);
+    tickets_create(BORROWER, OWNER, 1, 8);
+    tickets_check("tickets check, an issuer made again", OWNER, DRAWER, RIGHT, 0, 0);
+    tickets_reread("tickets check of records, an issuer made again", OWNER, 0);
+    returned("tickets pass, an issuer made again", rights_tickets_pass(TICKETS, OWNER, HOLDER, 6), 17);
+    returned("tickets remove, an issuer made again", rights_tickets_remove(TICKETS, OWNER, 6), 17);
+    returned("tickets pass, with another ticket for it and with edit", rights_tickets_pass(TICKETS, HOLDER, ROOT, 6), 17);
+    tickets_item(DRAWER, 0);
+    tickets_vacant(4);
+    tickets_vacant(5);
+    tickets_vacant(6);
+    returned("tickets delete", rights_tickets_delete(TICKETS, HOLDER, DRAWER), 0);
+    tickets_create(ROOT, DRAWER, 4, 9);
+    tickets_check("tickets check, made again", BORROWER, DRAWER, RIGHT, 0, 0);
+    tickets_item(BORROWER, 0);
+    tickets_vacant(1);
+    tickets_vacant(3);
+    returned("tickets delete, the one holder", rights_tickets_delete(TICKETS, ROOT, BORROWER), 0);
+    tickets_check("tickets check, the one holder", BORROWER, OWNER, 0, 0, 0);
+}
+
+/* 1,024 tickets live, then every number is used; 17 comes before 15, 15 before 16. A place anywhere is the next ticket's. */
+static void tickets_full(void)
+{
+    uint32_t number = 10;
+    tickets_generate(ROOT, ROOT, 1, 1, number++);
+    tickets_generate(ROOT, ROOT, 2, 3, number++);
+    for (unsigned place = 5; place < RIGHTS_TICKETS_MAX - 1; place++)
+        tickets_generate(ROOT, ROOT, place % 8, place, number++);
+    tickets_generate(ROOT, DRAWER, RIGHT, RIGHTS_TICKETS_MAX - 1, number);
+    tickets_check("tickets check, by the last place", ROOT, DRAWER, RIGHT, 0, 1);
+    tickets_reread("tickets check of records, by the last place", ROOT, 1);
+    tickets_broken("tickets, full, a number twice at the ends", RIGHTS_TICKETS_WORDS - 2, tickets[RIGHTS_TICKETS_WORDS - 2] - number);
+    tickets_refuse("tickets generate, full", ROOT, ROOT, RIGHT, 15);
+    tickets_refuse("tickets generate, full and not held", HOLDER, DRAWER, RIGHT, 17);
+    returned("tickets create, full", rights_tickets_create(TICKETS, ROOT, DEAD), 15);
+    returned("tickets create, full and on lives", rights_tickets_create(TICKETS, ROOT, HOLDER), 6);
+    tickets[1] = tickets_due[1] = 4294967295u;
+    tickets_refuse("tickets generate, full and spent", ROOT, ROOT, RIGHT, 15);
+    returned("tickets create, full and spent", rights_tickets_create(TICKETS, ROOT, DEAD), 15);
+    tickets_vacant(700);
+    returned("tickets remove, full", rights_tickets_remove(TICKETS, ROOT, 12 + 700 - 5), 0);
+    tickets_refuse("tickets generate, spent", ROOT, ROOT, RIGHT, 16);
+    tickets_refuse("tickets generate, spent and not held", HOLDER, DRAWER, RIGHT, 17);
+    returned("tickets create, spent", rights_tickets_create(TICKETS, ROOT, DEAD), 16);
+    returned("tickets create, spent and on lives", rights_tickets_create(TICKETS, ROOT, HOLDER), 6);
+    tickets[1] = tickets_due[1] = 4294967294u;
+    tickets_generate(ROOT, ROOT, 7, 700, 4294967294u);
+    tickets_check("tickets check, the last number", ROOT, ROOT, 7, 0, 1);
+    tickets_vacant(1023);
+    returned("tickets remove, the last place", rights_tickets_remove(TICKETS, ROOT, 12 + 1023 - 5), 0);
+    tickets_refuse("tickets generate, spent", ROOT, ROOT, RIGHT, 16);
+}
+
+/*
+ * Two numbers alike in their low halves are two numbers. Ticket 0 goes, and its number names no ticket then, though records without a
+ * ticket are all 0.
+ */
+static void tickets_numbers(void)
+{
+    tickets_start();
+    tickets[1] = tickets_due[1] = 65536 + 5;
+    tickets_generate(OWNER, DRAWER, SET_RIGHT, 6, 65536 + 5);
+    returned("tickets inspect, low halves alike", rights_tickets_inspect(TICKETS), 0);
+    tickets_place(6, 65536 + 5, DRAWER, SET_RIGHT, OWNER, MEMBER(OWNER) | MEMBER(ROOT));
+    returned("tickets pass, low halves alike", rights_tickets_pass(TICKETS, OWNER, ROOT, 65536 + 5), 0);
+    tickets_vacant(6);
+    returned("tickets remove, low halves alike", rights_tickets_remove(TICKETS, OWNER, 65536 + 5), 0);
+    returned("tickets remove, low halves alike", rights_tickets_remove(TICKETS, OWNER, 131072 + 5), 17);
+    tickets_generate(ROOT, ROOT, 0, 6, 65536 + 6);
+    tickets_vacant(0);
+    returned("tickets remove, ticket 0", rights_tickets_remove(TICKETS, ROOT, 0), 0);
+    returned("tickets remove, ticket 0 again", rights_tickets_remove(TICKETS, ROOT, 0), 17);
+    returned("tickets pass, ticket 0", rights_tickets_pass(TICKETS, ROOT, OWNER, 0), 17);
+    tickets_place(1, 1, OWNER, 0, ROOT, MEMBER(ROOT) | MEMBER(OWNER));
+    returned("tickets pass, one's own", rights_tickets_pass(TICKETS, ROOT, OWNER, 1), 0);
+    tickets_item(OWNER, 0);
+    tickets_vacant(1);
+    tickets_vacant(4);
+    tickets_place(5, 5, DRAWER, RIGHT, OWNER, MEMBER(HOLDER) | MEMBER(BORROWER));
+    returned("tickets delete, oneself", rights_tickets_delete(TICKETS, OWNER, OWNER), 0);
+}
+
 /* ---- which engine this is, and the texts */
 
 static void engine(void)
@@ -711,9 +1097,9 @@ static void engine(void)
 /* Every number has a text of its own, and every other number the same one. */
 static void texts(void)
 {
-    const char *other = rights_text(RIGHTS_EMPTY_SET + 1);
+    const char *other = rights_text(RIGHTS_NO_TICKET + 1);
     same("text", "that of 4294967295 for no number", (uint64_t)strcmp(rights_text(UINT32_MAX), other), 0);
-    for (uint32_t n = RIGHTS_DONE; n <= RIGHTS_EMPTY_SET; n++) {
+    for (uint32_t n = RIGHTS_DONE; n <= RIGHTS_NO_TICKET; n++) {
         same("text", "one of no letters", strlen(rights_text(n)) == 0, 0);
         same("text", "that of no number", strcmp(rights_text(n), other) == 0, 0);
         for (uint32_t m = RIGHTS_DONE; m < n; m++)
@@ -755,6 +1141,14 @@ int main(void)
     lenders_endings();
     lenders_full();
     lenders_limits();
+    tickets_start();
+    tickets_answers();
+    tickets_records();
+    tickets_refusals();
+    tickets_order();
+    tickets_endings();
+    tickets_full();
+    tickets_numbers();
     engine();
     texts();
     printf("C calls: %u compared, %u differ\n", compared, differences);

@@ -1,7 +1,8 @@
 /*
  * The greatest stack use of each function of rights.h: each call runs on a stack of its own that was painted before, and what it
- * painted over is counted, down from the frame of its caller. Every call is made on a fresh unit, on full tables in several shifts, and
- * refused. Fails where a call used more than RIGHTS_STACK_BYTES.
+ * painted over is counted, down from the frame of its caller. Every call is made on a fresh unit, on full tables in several shifts and
+ * with ticket numbers in several shapes, and refused. Fails where a call used more than RIGHTS_STACK_BYTES, or a call of the ticket unit
+ * more than RIGHTS_TICKETS_STACK_BYTES.
  */
 #define _XOPEN_SOURCE 700
 #include <stdio.h>
@@ -22,17 +23,21 @@ static uint64_t lists[RIGHTS_LISTS_WORDS];
 static uint8_t rows[RIGHTS_ROWS_BYTES];
 static uint8_t grants[RIGHTS_GRANTS_BYTES];
 static uint32_t loans[RIGHTS_LOANS_WORDS];
+static uint64_t tickets[RIGHTS_TICKETS_WORDS];
+static rights_ticket records[RIGHTS_TICKETS_MAX], looked_at;
 
 /* The set of every item but the dead one. */
 #define SET (~((uint64_t)1 << DEAD))
 
-static uint32_t number, yes, depth, persons;
+static uint32_t number, yes, depth, persons, ticket;
 static uint64_t persons_set;
 static uint8_t chain[RIGHTS_CHAIN_PERSONS];
 
 #define LISTS lists, RIGHTS_LISTS_WORDS
 #define ROWS rows, RIGHTS_ROWS_BYTES
 #define UNIT grants, RIGHTS_GRANTS_BYTES, loans, RIGHTS_LOANS_WORDS
+#define TICKETS tickets, RIGHTS_TICKETS_WORDS
+#define RECORDS records, RIGHTS_TICKETS_MAX
 
 /* Each call in a function of its own, whose frame is where counting begins. */
 #define CALL(name, ...) \
@@ -71,8 +76,26 @@ CALL(chains_recall, UNIT, LENDER, 0, DRAWER, RIGHT, 7, LAST)
 CALL(chains_shift, UNIT, 0, LAST)
 CALL(chains_check, UNIT, 0, DRAWER, RIGHT, chain, RIGHTS_CHAIN_PERSONS, &depth, &persons)
 CALL(chains_inspect, UNIT)
+CALL(tickets_fresh, TICKETS)
+CALL(tickets_create, TICKETS, 0, DEAD)
+CALL(tickets_generate, TICKETS, 0, DRAWER, RIGHT, &ticket)
+CALL(tickets_pass, TICKETS, 0, LENDER, 0)
+CALL(tickets_remove, TICKETS, 0, 0)
+CALL(tickets_delete, TICKETS, 0, DEAD)
+CALL(tickets_check, TICKETS, LENDER, DRAWER, RIGHT, &yes)
+CALL(tickets_inspect, TICKETS)
+CALL(tickets_records, TICKETS, RECORDS)
+CALL(tickets_check_records, RECORDS, LENDER, DRAWER, RIGHT, &yes)
 CALL(version, )
 CALL(layout_date, )
+
+/* The one call that gives no number back. */
+static void tickets_at(void)
+{
+    unsigned char frame;
+    caller = &frame;
+    looked_at = rights_tickets_at(RECORDS, 1023);
+}
 
 /*
  * fresh stands last of its unit: it leaves nothing of the state that the others are measured on. drop and withdraw stand before allow
@@ -91,7 +114,11 @@ static const struct {
     {"chains_lend", chains_lend}, {"chains_recall", chains_recall}, {"chains_drop", chains_drop},
     {"chains_withdraw", chains_withdraw}, {"chains_allow", chains_allow}, {"chains_allow_set", chains_allow_set},
     {"chains_create", chains_create}, {"chains_delete", chains_delete}, {"chains_shift", chains_shift},
-    {"chains_fresh", chains_fresh}, {"version", version}, {"layout_date", layout_date},
+    {"chains_fresh", chains_fresh}, {"tickets_inspect", tickets_inspect}, {"tickets_check", tickets_check},
+    {"tickets_records", tickets_records}, {"tickets_at", tickets_at}, {"tickets_check_records", tickets_check_records},
+    {"tickets_pass", tickets_pass}, {"tickets_generate", tickets_generate}, {"tickets_create", tickets_create},
+    {"tickets_delete", tickets_delete}, {"tickets_remove", tickets_remove}, {"tickets_fresh", tickets_fresh}, {"version", version},
+    {"layout_date", layout_date},
 };
 enum { CALLS = sizeof calls / sizeof calls[0] };
 
@@ -134,6 +161,38 @@ static void make_fresh(void)
     must(rights_lists_fresh(LISTS));
     must(rights_rows_fresh(ROWS));
     must(rights_chains_fresh(UNIT));
+    must(rights_tickets_fresh(TICKETS));
+}
+
+/* The numbers of a full table: rising, falling, alike in the low half, in no order. */
+static uint64_t shaped(unsigned shape, uint32_t place)
+{
+    switch (shape) {
+    case 0: return place;
+    case 1: return 1023 - place;
+    case 2: return place * 65536;
+    default: return place * 2654435761u % 4294967291u;
+    }
+}
+
+/* So many tickets of right 0 live, in turn for the root item and the drawer, each held by every item that lives. */
+static void make_tickets(uint32_t many, unsigned shape)
+{
+    memset(tickets, 0, sizeof tickets);
+    tickets[0] = SET;
+    tickets[1] = 4294967290u;
+    for (uint32_t place = 0; place < many; place++) {
+        tickets[2 + 2 * place] = shaped(shape, place) + (uint64_t)(place % 2 * DRAWER) * 4294967296u;
+        tickets[3 + 2 * place] = SET;
+    }
+    must(rights_tickets_inspect(TICKETS));
+}
+
+/* A number stands twice, at the ends. */
+static void make_twice(void)
+{
+    make_tickets(RIGHTS_TICKETS_MAX, 1);
+    tickets[2 + 2 * 1023] = tickets[2];
 }
 
 /*
@@ -167,26 +226,46 @@ static void make_damaged(void)
     memset(rows, 0, sizeof rows);
     memset(grants, 0, sizeof grants);
     memset(loans, 0, sizeof loans);
+    memset(tickets, 0, sizeof tickets);
+}
+
+static int is_of_tickets(unsigned call)
+{
+    return strncmp(calls[call].name, "tickets_", 8) == 0;
+}
+
+/* The greatest use of the calls of the ticket unit, or of the others; whether it is within the limit. */
+static int told(int of_tickets, int limit)
+{
+    unsigned most = CALLS;
+    for (unsigned k = 0; k < CALLS; k++)
+        if (is_of_tickets(k) == of_tickets && (most == CALLS || greatest[k] > greatest[most]))
+            most = k;
+    printf("stack: at most %lu bytes, by rights_%s; the header says %d\n", (unsigned long)greatest[most], calls[most].name, limit);
+    return greatest[most] <= (size_t)limit;
 }
 
 int main(void)
 {
     static const uint32_t loans_of_key[] = {0, 1, 16, 63, 64, 65, 200, 1023, 1024};
     static const uint32_t shifts[] = {0, 3, LAST + 1};
+    static const uint32_t tickets_alive[] = {1, 2, 16, 64, 300, 1023, 1024};
     enum { SHIFTS = sizeof shifts / sizeof shifts[0] };
-    unsigned most = 0;
+    int within;
     make_fresh();
     measure();
     for (unsigned k = 0; k < SHIFTS * (sizeof loans_of_key / sizeof loans_of_key[0]); k++) {
         make_full(loans_of_key[k / SHIFTS], shifts[k % SHIFTS]);
         measure();
     }
+    for (unsigned k = 0; k < 4 * (sizeof tickets_alive / sizeof tickets_alive[0]); k++) {
+        make_tickets(tickets_alive[k / 4], k % 4);
+        measure();
+    }
+    make_twice();
+    measure();
     make_damaged();
     measure();
-    for (unsigned k = 0; k < CALLS; k++)
-        if (greatest[k] > greatest[most])
-            most = k;
-    printf("stack: at most %lu bytes, by rights_%s; the header says %d\n", (unsigned long)greatest[most], calls[most].name,
-           RIGHTS_STACK_BYTES);
-    return greatest[most] <= RIGHTS_STACK_BYTES ? 0 : 1;
+    within = told(0, RIGHTS_STACK_BYTES);
+    return told(1, RIGHTS_TICKETS_STACK_BYTES) && within ? 0 : 1;
 }

@@ -9,6 +9,7 @@ pub mod loans;
 pub mod rounds;
 pub mod rows;
 pub mod settling;
+pub mod tickets;
 
 use crate::api::*;
 
@@ -235,6 +236,7 @@ pub const PLAIN: Api = Api {
     lists_to_rows: convert::lists_to_rows,
     rows_to_lists: convert::rows_to_lists,
     chains: chains::UNIT,
+    tickets: tickets::UNIT,
 };
 
 /// The chain unit whose check settles each person once, for open-ended loans.

@@ -4,7 +4,7 @@
 use rights::lent;
 use rights::lent::chains::Checked;
 
-use crate::model::{Command, Layout, ListLayout, RowLayout};
+use crate::model::{Command, Layout, ListLayout, RowLayout, TicketCommand};
 
 /// A unit without depth: its image's layout and its calls.
 pub trait Flat: Layout {
@@ -104,4 +104,16 @@ pub fn check_chains(
     chain: &mut [u8],
 ) -> Checked {
     lent::chains::check(grants, loans, who, on, right, chain)
+}
+
+/// The number of a command to the ticket unit, and that of the new ticket which generate gave beside
+/// it; 0 of a command that gives none.
+pub fn give_tickets(image: &mut [u64], command: TicketCommand) -> (u32, u32) {
+    match command {
+        TicketCommand::Create { by, on } => (lent::tickets::create(image, by, on), 0),
+        TicketCommand::Generate { by, on, right } => lent::tickets::generate(image, by, on, right),
+        TicketCommand::Pass { by, to, number } => (lent::tickets::pass(image, by, to, number), 0),
+        TicketCommand::Remove { by, number } => (lent::tickets::remove(image, by, number), 0),
+        TicketCommand::Delete { by, on } => (lent::tickets::delete(image, by, on), 0),
+    }
 }

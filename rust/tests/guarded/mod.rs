@@ -9,8 +9,6 @@ use std::marker::PhantomData;
 use std::ptr;
 use std::slice;
 
-use crate::model::Cell;
-
 extern "C" {
     fn mmap(
         at: *mut c_void,
@@ -97,7 +95,7 @@ pub struct Guarded<C> {
     cells: PhantomData<C>,
 }
 
-impl<C: Cell> Guarded<C> {
+impl<C: Copy + PartialEq> Guarded<C> {
     pub fn new(content: &[C], side: Side) -> Self {
         let size = size_of_val(content);
         let pages = pages(size.next_multiple_of(PAGE));

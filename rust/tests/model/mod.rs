@@ -1,5 +1,5 @@
-//! Document 01 once more, with requests K1 to K3 and K5 of document 02, in plain Rust over sets. It
-//! shares no code with the engine; where the papers leave a choice, it follows the readings in
+//! Document 01 once more, with requests K1 to K3, K5 and K6 of document 02, in plain Rust over sets.
+//! It shares no code with the engine; where the papers leave a choice, it follows the readings in
 //! docs/DECISIONS.md.
 #![allow(dead_code, unused_imports)]
 
@@ -8,6 +8,8 @@ pub mod commands;
 mod images;
 mod journal;
 mod journals;
+mod ticket_images;
+pub mod tickets;
 
 pub use chains::Ending;
 pub use images::{
@@ -16,3 +18,5 @@ pub use images::{
 };
 pub use journal::{Command, Grant, Journal, Loan};
 pub use journals::{Journals, Numbers};
+pub use ticket_images::{record_of, ticket_image, ticket_state, ticket_words, TICKET_WORDS};
+pub use tickets::{LiveTicket, TicketCommand, TicketState};
