@@ -50,6 +50,15 @@ first-most f (suc n) h =
     by-cases (decLt (most f n) (f n)) (λ l. rw (lt-ltb _ _ l) (omega arith, omega arith))
     (λ l. rw (le-ltb (most f n) (f n) (omega arith)) (let ih = first-most f n (omega arith) in (omega arith, omega arith)))
 
+-- before it f is less
+pub first-before : (f : ℕ → ℕ) (n i : ℕ) → i < firstAt f n → f i < most f n
+unfolding most firstAt
+first-before f zero i h = absurd (omega arith)
+first-before f (suc n) i h =
+    by-cases (decLt (most f n) (f n))
+    (λ l. let k : i < n = rw (lt-ltb _ _ l) at h in omega (arith, most-above f n i k))
+    (λ l. let k : i < firstAt f n = rw (le-ltb (most f n) (f n) (omega arith)) at h in omega (arith, first-before f n i k))
+
 pub first-le : (f : ℕ → ℕ) (n : ℕ) → firstAt f (suc n) ≤ n
 unfolding firstAt
 first-le f n = below (ltb (most f n) (f n)) (rest n)
