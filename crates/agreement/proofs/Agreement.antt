@@ -8,7 +8,7 @@ use native.Mathlib.Decide.{ℕ-discrete}
 use mathlib.Core.List.{List, [], _∷_}
 use Prim.Native.Nat.{ℕ, _+_, _≤_, _<_}
 use borrow.Author.Tests.{eqb-true, eq-eqb, ne-eqb, leb-true}
-use lib.ListN.{length, getD}
+use lib.ListN.{length, getD, take}
 use lib.Dec.{eqb, leb}
 use Rattle.model.specs.declared.Command.{Command}
 use Rattle.bits.specs.Sets.{any, all, keep}
@@ -17,7 +17,7 @@ use Rattle.model.specs.Answers.{flat, asked, Found, nothing}
 use Rattle.model.specs.Journal.{Loan, Journal, grant, sameLoan, isTo, carries, standingLoan, apply, LoanCarries, facts, answered, fresh, step, run, isDrop}
 use Rattle.layouts.specs.Layouts.{Layout, lists, rows, grantBytes, flatUnit}
 use Rattle.layouts.specs.Machine.{stepOf}
-use Rattle.model.specs.Chain.{granted, lent, Meets, JournalChain, JournalAccess}
+use Rattle.model.specs.Chain.{granted, lent, Meets, FewestPersons, NobodyTwice, JournalChain, JournalAccess}
 use Rattle.delegation.specs.Loans.{lastShift, lender, borrower, loanDepth, loanItem, loanRight, wordOf, shiftIn, used}
 use Rattle.delegation.specs.Images.{Images, WordCarries, ImageChain}
 use Rattle.delegation.specs.ChainUnit.{chainCheckNumber, chainFound, chainBuffer}
@@ -25,7 +25,7 @@ use Rattle.agreement.specs.Agreement.{Units, freshUnits, FlatAgrees, Cha
 use Rattle.agreement.specs.Examples.{calls}
 use Rattle.bits.proofs.Sets.{fst, snd, both, find, found}
 use Rattle.bits.proofs.Sets as sets
-use Rattle.model.proofs.Chain.{chain-length, chain-map, meets-map, meets-access, access-iff}
+use Rattle.model.proofs.Chain.{chain-length, chain-map, meets-map, meets-access, access-iff, meets-persons, given, nobody-twice}
 use Rattle.model.specs.Invariant.{ranged, Inv, rangedLoan, Kept, Alike}
 use Rattle.model.proofs.Invariant.{neither, same-loan, loan-self, inv-fresh, loans-ranged}
 use Rattle.layouts.specs.Laws.{Laws, imageOf}
@@ -163,14 +163,31 @@ module _ (j : Journal) (v : Kept j) (buffer : List ℕ) (l : length buffer ≡ 8
         λ q. absurd (false≢true (ap (λ (f : Found). f .yes) (sym (b .0)) ∙ q .0)),
       ))
 
+  persons-of : (n : ℕ) → FewestPersons (λ ps a. JournalChain j o r ps p a) n
+      ↔ (chainFound (imagesOf j) buffer p o r .yes ≡ true) × (chainFound (imagesOf j) buffer p o r .persons ≡ n)
+  persons-of n =
+      by-cases (ℕ-discrete (asked p o r) 0) (λ e. meets-persons (meets-of e) n)
+      (λ ne. let b = beyond-of ne in (
+        λ t. absurd (b .2 (t .0 .persons) (t .0 .depth) (t .0 .chain)),
+        λ q. absurd (false≢true (ap (λ (f : Found). f .yes) (sym (b .0)) ∙ q .0)),
+      ))
+
 chain-agrees : (j : Journal) → Kept j → ChainAgrees j (imagesOf j)
 chain-agrees j v = record {
   number = number-of j v;
   meets = meets-of j v;
   beyond = beyond-of j v;
   rules = rules-of j v;
+  persons = persons-of j v;
   unchanged = λ buffer p o r. refl;
 }
+
+-- a unit that agrees with a journal writes no chain that names somebody twice
+pub chain-nobody-twice : (j : Journal) (s : Images) → ChainAgrees j s → (buffer : List ℕ) → length buffer ≡ 8 → (p o r : ℕ)
+    → chainFound s buffer p o r .yes ≡ true → NobodyTwice (take (chainFound s buffer p o r .persons) (chainBuffer s buffer p o r))
+chain-nobody-twice j s a buffer l p o r y =
+    by-cases (ℕ-discrete (asked p o r) 0) (λ e. nobody-twice (given (a .meets buffer l p o r e) y))
+    (λ ne. absurd (false≢true (ap (λ (f : Found). f .yes) (sym (a .beyond buffer l p o r ne .0)) ∙ y)))
 
 -- ---- the units of two journals
 abbrev pub unitsOf : Journal → Journal → Units

@@ -17,15 +17,16 @@ use Rattle.model.specs.Journal.{step, run, Loan, Journal, grant, sameGrant, sam
 use Rattle.layouts.specs.Layouts.{lists, rows}
 use Rattle.model.specs.Chain.{granted, lent, Meets, JournalChain}
 use Rattle.agreement.specs.Agreement.{Units, Agrees, Answers, Follows, called, freshUnits, flatStep, fed}
-use Rattle.agreement.specs.Examples.{Route, route, start, extends, onward, extended, serves, routes, routesTo, Question, asks, checks, Said, number, passed, no, flatYes, yes, highest, best, said, flatSaid, Example, base, lentFor2, threeDepths, examples, outcome, flatOutcome, calls, saidOf, chainSaid, chainOutcome, unitSaid, listOutcome, rowOutcome}
-use Rattle.bits.proofs.Sets.{all-true, fst, snd, both, or-left, or-right, by-cases, either, found, any-same, any-keep, any-map, eqb-self}
+use Rattle.agreement.specs.Examples.{Route, route, start, extends, onward, extended, serves, routes, routesTo, Question, asks, checks, Said, number, passed, no, flatYes, yes, highest, shortest, best, said, flatSaid, Example, base, lentFor2, threeDepths, depth7, eightPersons, examples, outcome, flatOutcome, calls, saidOf, chainSaid, chainOutcome, unitSaid, listOutcome, rowOutcome}
+use Rattle.bits.proofs.Sets.{all-true, all-mono, all-keep, all-in, fst, snd, both, or-left, or-right, by-cases, either, found, any-same, any-keep, any-map, eqb-self}
 use Rattle.model.proofs.Invariant.{same-loan, same-grant, loan-self, grant-self}
+use Rattle.model.proofs.Chain.{given-length}
 use Rattle.model.proofs.Steps.{kept-run, kept-fresh}
 use Rattle.agreement.proofs.Agreement.{agreement, journal-short}
 
 -- E1 to E12, and the rows of the shift, of allowset and of drop
 pub examples-hold : map outcome examples ≡ map (λ (e : Example). e .expected) examples
-unfolding fresh base lentFor2 threeDepths carries examples any all keep add tabulate members bit lowest extended routes routesTo highest best
+unfolding fresh base lentFor2 threeDepths depth7 eightPersons carries examples any all keep add tabulate members bit lowest extended routes routesTo highest shortest best
 examples-hold = refl
 
 -- a lend whose last shift is past is answered 13, with 1,024 loans standing or not: 13 comes before 10
@@ -217,7 +218,7 @@ module _ (j : Journal) (o r : ℕ) where
       either (any (sameRoute t) (routesTo j o r n)) (any (sameRoute t) (routes j o r (suc n)))
       (sym (any-append (sameRoute t) (routesTo j o r n) (routes j o r (suc n))) ∙ h) (up-to-chain n t) (route-chain (suc n) t)
 
--- ---- what the best of the routes says is what `Meets` says, where one chain is the best
+-- ---- what the best of the routes says is what `Meets` says, where one of the best is the shortest
 highest-above : (t : Route) (ts : List Route) → any (sameRoute t) ts ≡ true → t .allowance ≤ highest ts
 unfolding highest any
 highest-above t [] h = absurd (false≢true h)
@@ -234,7 +235,7 @@ highest-is t (u ∷ ts) =
     (λ l. (t, or-left (sameRoute t t) _ (route-self t), omega (arith, leb-true (max (u .allowance) (highest ts)) (t .allowance) l)))
     (λ l. (k .0, or-right (sameRoute (k .0) t) _ (k .1), omega (arith, k .2, leb-false (max (u .allowance) (highest ts)) (t .allowance) l)))
 
--- one chain is the best, or none is there
+-- one of the best chains is the shortest, or none is there
 abbrev single : List (List ℕ) → Bool
 single [] = false
 single (ps ∷ []) = true
@@ -248,6 +249,28 @@ decided flatYes = true
 decided (yes a ps) = single ps
 
 module _ {C : List ℕ → ℕ → Type 0} {f : Found} {buffer : List ℕ} (m : Meets C f buffer) (p : ℕ) where
+  -- the chain that is given is among the shortest of the best routes
+  given-in : (ts : List Route) → ((t : Route) → any (sameRoute t) ts ≡ true → C (t .persons) (t .allowance)) → f .yes ≡ true
+      → any (sameRoute (route (take (f .persons) buffer) p (f .depth))) ts ≡ true → f .depth ≡ highest ts
+      → any (sameList (take (f .persons) buffer))
+      (map (λ (x : Route). x .persons) (shortest (keep (λ x. eqb (x .allowance) (highest ts)) ts))) ≡ true
+  unfolding shortest
+  given-in ts from y shown e =
+      let via : List ℕ = take (f .persons) buffer in
+      let isBest : Route → Bool = λ x. eqb (x .allowance) (highest ts) in
+      let isShort : Route → Bool = λ x. all (λ (t : Route). leb (length (x .persons)) (length (t .persons))) (keep isBest ts) in
+      let short : isShort (route via p (f .depth)) ≡ true
+      = all-mono (λ (x : Route). any (sameRoute x) ts && isBest x) (λ (x : Route). leb (length via) (length (x .persons))) (keep isBest ts)
+      (all-keep (λ (x : Route). any (sameRoute x) ts) isBest ts (all-in sameRoute route-self ts))
+      (λ x h. let a : x .allowance ≡ f .depth = eqb-true _ _ (snd (any (sameRoute x) ts) (isBest x) h) ∙ sym e in
+      let c : C (x .persons) (f .depth) = subst (C (x .persons)) a (from x (fst (any (sameRoute x) ts) (isBest x) h)) in
+      le-leb (length via) (length (x .persons)) (omega (arith, given-length m y, m .fewest (x .persons) c))) in
+      any-map (sameList via) (λ (x : Route). x .persons) (keep isShort (keep isBest ts))
+      ∙ any-keep (λ x. sameList via (x .persons)) isShort (keep isBest ts)
+      ∙ any-keep (λ x. isShort x && sameList via (x .persons)) isBest ts
+      ∙ any-same (λ x. isBest x && (isShort x && sameList via (x .persons))) sameRoute same-route (route via p (f .depth)) ts shown
+      (both (eq-eqb (f .depth) (highest ts) e) (both short (list-self via)))
+
   said-best : (ts : List Route) → ((t : Route) → any (sameRoute t) ts ≡ true → C (t .persons) (t .allowance))
       → ((ps : List ℕ) (a : ℕ) → C ps a → any (sameRoute (route ps p a)) ts ≡ true) → decided (best ts) ≡ true → saidOf f buffer ≡ best ts
   unfolding best
@@ -262,16 +285,9 @@ module _ {C : List ℕ → ℕ → Type 0} {f : Found} {buffer : List ℕ} (m : 
       let low = highest-above (route (take (f .persons) buffer) p (f .depth)) (t ∷ ts) shown in
       let high = m .greatest (u .0 .persons) (u .0 .allowance) (from (u .0) (u .1)) .1 in
       let e : f .depth ≡ highest (t ∷ ts) = omega (arith, low, high, u .2) in
-      let within : any (sameList (take (f .persons) buffer))
-      (map (λ (x : Route). x .persons) (keep (λ x. eqb (x .allowance) (highest (t ∷ ts))) (t ∷ ts))) ≡ true
-      = any-map (sameList (take (f .persons) buffer)) (λ (x : Route). x .persons)
-      (keep (λ x. eqb (x .allowance) (highest (t ∷ ts))) (t ∷ ts))
-      ∙ any-keep (λ x. sameList (take (f .persons) buffer) (x .persons)) (λ x. eqb (x .allowance) (highest (t ∷ ts))) (t ∷ ts)
-      ∙ any-same (λ x. eqb (x .allowance) (highest (t ∷ ts)) && sameList (take (f .persons) buffer) (x .persons)) sameRoute same-route
-      (route (take (f .persons) buffer) p (f .depth)) (t ∷ ts) shown
-      (both (eq-eqb (f .depth) (highest (t ∷ ts)) e) (list-self (take (f .persons) buffer))) in
       rw (y, e) (ap (yes (highest (t ∷ ts)))
-      (only (map (λ (x : Route). x .persons) (keep (λ x. eqb (x .allowance) (highest (t ∷ ts))) (t ∷ ts))) d within))
+      (only (map (λ (x : Route). x .persons) (shortest (keep (λ x. eqb (x .allowance) (highest (t ∷ ts))) (t ∷ ts)))) d
+      (given-in (t ∷ ts) from y shown e)))
     where
       only : (L : List (List ℕ)) → single L ≡ true → any (sameList (take (f .persons) buffer)) L ≡ true → take (f .persons) buffer ∷ [] ≡ L
       only [] d h = absurd (false≢true d)
@@ -300,7 +316,7 @@ after-all cs = last-agrees cs fresh fresh freshUnits (agreement cs .every)
 next-after : (cs : List Command) (c : Command) → Answers (run fresh cs) (fed flatStep fresh cs) (calls freshUnits cs) c
 next-after cs c = next-answers cs c fresh fresh freshUnits (agreement (cs ++ (c ∷ [])) .every)
 
--- a question that agreement settles: within the limits, and with one best chain at most
+-- a question that agreement settles: within the limits, and with one shortest best chain at most
 abbrev within : Question → Bool
 within (asks c) = true
 within (checks p) = eqb (asked p 9 1) 0
@@ -338,7 +354,7 @@ same-outcomes f g q (x ∷ es) h e =
     ap₂ (λ (y : Said) (ys : List Said). y ∷ ys) (e x (fst (q x) (all q es) h)) (same-outcomes f g q es (snd (q x) (all q es) h) e)
 
 all-settled : all settled examples ≡ true
-unfolding fresh base lentFor2 threeDepths carries examples any all keep add tabulate members bit lowest extended routes routesTo highest best
+unfolding fresh base lentFor2 threeDepths depth7 eightPersons carries examples any all keep add tabulate members bit lowest extended routes routesTo highest shortest best
 all-settled = refl
 
 -- E1 to E12, of the chain unit
@@ -361,7 +377,7 @@ flat-says cs (checks p) =
     (ap (λ b. cond b flatYes no) (a .list .yes p 9 1), ap (λ b. cond b flatYes no) (a .row .yes p 9 1))
 
 flat-expected : map flatOutcome examples ≡ map (λ (e : Example). e .flat) examples
-unfolding fresh base lentFor2 threeDepths carries examples any all keep add tabulate members bit lowest
+unfolding fresh base lentFor2 threeDepths depth7 eightPersons carries examples any all keep add tabulate members bit lowest
 flat-expected = refl
 
 same-flat : (f : Example → Said) → ((e : Example) → f e ≡ flatOutcome e) → map f examples ≡ map (λ (e : Example). e .flat) examples

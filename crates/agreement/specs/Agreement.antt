@@ -11,7 +11,7 @@ use Rattle.model.specs.Answers.{flat, asked, nothing}
 use Rattle.layouts.specs.Machine.{answerOf, stepOf}
 use Rattle.model.specs.Journal.{Journal, answered, fresh, step, hasGrant, isDrop}
 use Rattle.layouts.specs.Layouts.{Layout, lists, rows, flatUnit, checkNumber, checkYes, checkLeft, freshImage}
-use Rattle.model.specs.Chain.{Meets, JournalChain, JournalAccess}
+use Rattle.model.specs.Chain.{Meets, FewestPersons, JournalChain, JournalAccess}
 use Rattle.delegation.specs.Images.{Images}
 use Rattle.delegation.specs.ChainUnit.{chainUnit, chainCheckNumber, chainFound, chainBuffer, chainLeft, chainFresh}
 
@@ -32,8 +32,8 @@ pub record FlatAgrees (L : Layout) (j : Journal) (s : List ℕ) : Type 0 where
   pub yes : (p o r : ℕ) → checkYes L s p o r ≡ hasGrant j p o r
   pub unchanged : (p o r : ℕ) → checkLeft L s p o r ≡ s
 
--- The chain unit says yes exactly when the journal has a chain, with the greatest depth of any, and writes one that has it; 'with a
--- chain buffer of its own of the right length'. Beyond the limits there is no chain, and the check is refused.
+-- The chain unit says yes exactly when the journal has a chain, with the greatest depth of any, and writes one that has it, with the
+-- fewest persons; 'with a chain buffer of its own of the right length'. Beyond the limits there is no chain, and the check is refused.
 pub record ChainAgrees (j : Journal) (s : Images) : Type 0 where
   pub number : (buffer : List ℕ) → length buffer ≡ 8 → (p o r : ℕ) → chainCheckNumber s buffer p o r ≡ asked p o r
   pub meets : (buffer : List ℕ) → length buffer ≡ 8 → (p o r : ℕ) → asked p o r ≡ 0
@@ -44,6 +44,10 @@ pub record ChainAgrees (j : Journal) (s : Images) : Type 0 where
   -- 'This equals 002's four inference rules': they derive access at depth d exactly where the check says yes with at least d
   pub rules : (buffer : List ℕ) → length buffer ≡ 8 → (p o r d : ℕ)
       → JournalAccess j p o r d ↔ (chainFound s buffer p o r .yes ≡ true) × (d ≤ chainFound s buffer p o r .depth)
+  -- the number of persons is the fewest of a best chain of the journal's
+  pub persons : (buffer : List ℕ) → length buffer ≡ 8 → (p o r n : ℕ)
+      → FewestPersons (λ ps a. JournalChain j o r ps p a) n
+      ↔ (chainFound s buffer p o r .yes ≡ true) × (chainFound s buffer p o r .persons ≡ n)
   pub unchanged : (buffer : List ℕ) (p o r : ℕ) → chainLeft s buffer p o r ≡ s
 
 -- lists and rows are held to journal k, the chain unit to journal j

@@ -1,13 +1,13 @@
--- Document 01's handover examples E1 to E12, as one table over the journal, and document 02's shifts, allowset, drop and what becomes of
--- loans in rows of their own.
+-- Document 01's handover examples E1 to E12, as one table over the journal, and document 02's shifts, allowset, drop, what becomes of
+-- loans and the fewest persons in rows of their own.
 use mathlib.Core.Bool.{Bool, _&&_, cond}
 use mathlib.Core.List.{List, [], _∷_, _++_, map}
 use Prim.Native.Nat.{ℕ, zero, suc, _-_, min, max}
-use lib.ListN.{take, replicate}
+use lib.ListN.{length, take, replicate}
 use lib.Dec.{eqb, leb}
 use Rattle.model.specs.declared.Command.{Command}
 use Rattle.model.specs.declared.Command.the-variants.{Create, Delete, Allow, Withdraw, Lend, Recall, Shift, AllowSet, Drop}
-use Rattle.bits.specs.Sets.{keep}
+use Rattle.bits.specs.Sets.{all, keep}
 use Rattle.model.specs.Answers.{Found, flat}
 use Rattle.layouts.specs.Machine.{answerOf}
 use Rattle.model.specs.Journal.{Grant, Loan, Journal, carries, answered, hasGrant, fresh, run}
@@ -63,7 +63,7 @@ pub data Question : Type 0 where
   checks : ℕ → Question
 
 -- a command's number, or that it is passed over; a check's no, its yes without a depth, or its yes with the greatest allowance and the
--- persons of every chain that has it
+-- persons of every chain that has it and the fewest persons
 pub data Said : Type 0 where
   number : ℕ → Said
   passed : Said
@@ -76,11 +76,15 @@ unfoldable pub highest : List Route → ℕ
 highest [] = 0
 highest (t ∷ ts) = max (t .allowance) (highest ts)
 
--- what some routes to one person say: no where there is none, else the greatest allowance and the persons of each that has it
+-- those of some routes than which none has fewer persons
+unfoldable pub shortest : List Route → List Route
+shortest ts = keep (λ (u : Route). all (λ (t : Route). leb (length (u .persons)) (length (t .persons))) ts) ts
+
+-- what some routes to one person say: no where there is none, else the greatest allowance and the persons of the shortest that have it
 unfoldable pub best : List Route → Said
 best [] = no
 best (t ∷ ts) =
-    yes (highest (t ∷ ts)) (map (λ (u : Route). u .persons) (keep (λ u. eqb (u .allowance) (highest (t ∷ ts))) (t ∷ ts)))
+    yes (highest (t ∷ ts)) (map (λ (u : Route). u .persons) (shortest (keep (λ u. eqb (u .allowance) (highest (t ∷ ts))) (t ∷ ts))))
 
 -- 'on 9 and right 1'
 abbrev pub said : Journal → Question → Said
@@ -113,6 +117,17 @@ lentFor2 = Shift 0 2 ∷ Lend 3 0 9 1 1 2 ∷ []
 -- 3 has the depths 0, 3 and 7 on 9, right 1
 unfoldable pub threeDepths : List Command
 threeDepths = Allow 0 3 9 1 0 ∷ Allow 0 3 9 1 3 ∷ Allow 0 3 9 1 7 ∷ Drop 0 3 9 1 2 ∷ []
+
+-- 3 has depth 7 alone there
+unfoldable pub depth7 : List Command
+depth7 = Allow 0 3 9 1 7 ∷ Drop 0 3 9 1 2 ∷ []
+
+-- then eight persons, the first of them 3 and the last 10, each of whom lends to the next as deep as can be
+unfoldable pub eightPersons : List Command
+eightPersons =
+    depth7
+    ++ (Create 0 6 ∷ Create 0 7 ∷ Create 0 8 ∷ Create 0 10 ∷ Lend 3 4 9 1 7 0 ∷ Lend 4 5 9 1 7 0 ∷ Lend 5 6 9 1 7 0
+    ∷ Lend 6 7 9 1 7 0 ∷ Lend 7 8 9 1 7 0 ∷ Lend 8 0 9 1 7 0 ∷ Lend 0 10 9 1 7 0 ∷ [])
 
 -- the paper's examples, a row each, in its order
 unfoldable pub examples : List Example
@@ -241,6 +256,22 @@ examples =
     -- with a last shift and past it too: none is left that bars a lower shift
     ∷ row (lentFor2 ++ (Shift 0 3 ∷ Withdraw 0 3 9 1 ∷ [])) (asks (Shift 0 1)) (number 0) passed
     ∷ row (lentFor2 ++ (Shift 0 3 ∷ Drop 0 3 9 1 2 ∷ [])) (asks (Shift 0 1)) (number 0) passed
+    -- 'Among chains with the greatest allowance the check now gives one with the fewest persons': a direct loan beside the chain of three
+    -- with the same end, and an own grant beside both
+    ∷ row (Lend 3 5 9 1 0 0 ∷ []) (checks 5) (yes 0 ((3 ∷ 5 ∷ []) ∷ [])) no
+    ∷ row (Lend 3 5 9 1 0 0 ∷ Allow 0 5 9 1 0 ∷ []) (checks 5) (yes 0 ((5 ∷ []) ∷ [])) flatYes
+    -- the greatest allowance comes first: the chain of three to 5 ends with 2, past an own grant of depth 0 and a direct loan of depth 1
+    ∷ row (Allow 0 3 9 1 4 ∷ Lend 3 4 9 1 3 0 ∷ Lend 4 5 9 1 2 0 ∷ Lend 3 5 9 1 1 0 ∷ Allow 0 5 9 1 0 ∷ []) (checks 5)
+    (yes 2 ((3 ∷ 4 ∷ 5 ∷ []) ∷ [])) flatYes
+    -- equal depths, the shorter one a loan with a last shift: in that shift, and in the next
+    ∷ row (Shift 0 2 ∷ Lend 3 5 9 1 0 2 ∷ []) (checks 5) (yes 0 ((3 ∷ 5 ∷ []) ∷ [])) no
+    ∷ row (Shift 0 2 ∷ Lend 3 5 9 1 0 2 ∷ Shift 0 3 ∷ []) (checks 5) (yes 0 ((3 ∷ 4 ∷ 5 ∷ []) ∷ [])) no
+    -- a loop: 4 lends back to 3, who has lent to 5; the chain 3,4,3,5 ends with 0 too
+    ∷ row (depth7 ++ (Lend 3 4 9 1 7 0 ∷ Lend 4 3 9 1 7 0 ∷ Recall 4 5 9 1 0 0 ∷ Lend 3 5 9 1 0 0 ∷ [])) (checks 5)
+    (yes 0 ((3 ∷ 5 ∷ []) ∷ [])) no
+    -- the longest, 8; and with a direct loan beside it
+    ∷ row eightPersons (checks 10) (yes 0 ((3 ∷ 4 ∷ 5 ∷ 6 ∷ 7 ∷ 8 ∷ 0 ∷ 10 ∷ []) ∷ [])) no
+    ∷ row (eightPersons ++ (Lend 3 10 9 1 0 0 ∷ [])) (checks 10) (yes 0 ((3 ∷ 10 ∷ []) ∷ [])) no
     ∷ []
 
 -- what the journal says after an example's commands

@@ -451,8 +451,8 @@ fn answer(
     answer_in(&mut many, grants, loans, who, on, right, chain)
 }
 
-// Whether a chain of grants and carrying loans leads to the person, with the greatest depth that any ends with, and one that does
-// written into the chain buffer.
+// Whether a chain of grants and carrying loans leads to the person, with the greatest depth that any ends with. Of those that do, one with
+// the fewest persons is written into the chain buffer.
 pub fn check(
     grants: &[u8],
     loans: &[u32],

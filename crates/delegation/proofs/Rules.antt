@@ -5,13 +5,13 @@ use mathlib.Core.Bool.{Bool, true, false, _&&_, false≢true}
 use mathlib.Core.Logic.{_↔_}
 use mathlib.Core.List.{List}
 use Prim.Native.Nat.{ℕ, _+_, _*_, _≤_, _<_}
-use lib.ListN.{length, getD}
+use lib.ListN.{length, getD, take}
 use lib.Dec.{eqb, leb}
 use Rattle.model.specs.Answers.{asked}
 use Rattle.model.specs.Journal.{grant}
 use Rattle.model.specs.Commands.{depths}
 use Rattle.layouts.specs.Layouts.{Layout, liveIn, grantBit, held, inOrder, grantBytes, checkNumber, checkYes}
-use Rattle.model.specs.Chain.{Access, Greatest, Meets}
+use Rattle.model.specs.Chain.{Access, Shortest, FewestPersons, NobodyTwice, Meets}
 use Rattle.bits.specs.Bits.{bit}
 use Rattle.bits.specs.Sets.{any}
 use Rattle.delegation.specs.Loans.{lender, borrower, loanDepth, rising, used, loansInOrder}
@@ -21,7 +21,7 @@ use Rattle.delegation.specs.Search.{grantsOf, bestOf, bestChain, foundOf
 use Rattle.delegation.specs.ChainUnit.{chainSized, chainInOrder, chainCheckNumber, chainFound, chainBuffer}
 use Rattle.bits.proofs.Sets.{fst, snd, both, by-cases, find}
 use Rattle.model.proofs.Invariant.{passed, asked-in, asked-limits}
-use Rattle.model.proofs.Chain.{meets-access, greatest-exists}
+use Rattle.model.proofs.Chain.{meets-access, meets-persons, shortest-exists, given, nobody-twice}
 use Rattle.layouts.specs.Laws.{Laws}
 use Rattle.model.proofs.Commands.{small}
 use Rattle.layouts.proofs.Layouts.{order-live}
@@ -78,7 +78,7 @@ module _ (s : Images) (bytes : (i : ℕ) → getD (s .grants) i 0 < 256) (buffer
       let e = picked-only (s .loans) o r (picked (s .loans) (8 * o + r)) ls check-picks these in
       rw free (ap (λ (x : List ℕ). bestOf (grantsOf (s .grants) (8 * o + r)) x p) e, ap (λ (x : List ℕ). bestChain (grantsOf (s .grants) (8 * o + r)) x p) e)
 
-  -- yes exactly when a chain exists, with the greatest last allowance of any, and the bytes of one that has it
+  -- yes exactly when a chain exists, with the greatest last allowance of any, and the bytes of one that has it and the fewest persons
   pub check-meets : Meets (λ ps a. ImageChain s o r ps p a) (chainFound s buffer p o r) (chainBuffer s buffer p o r)
   check-meets =
       let b = asked-limits p o r (judged .1) in
@@ -90,9 +90,19 @@ module _ (s : Images) (bytes : (i : ℕ) → getD (s .grants) i 0 < 256) (buffer
       meets-access lender borrower loanDepth (λ p o r d. standingIn (s .grants) (grant p o r d) ≡ true)
       (WordCarries (s .loans)) p o r check-meets d
 
-  -- the greatest allowance exists when any does
-  pub image-greatest : {ps : List ℕ} {a : ℕ} → ImageChain s o r ps p a → Greatest (λ qs b. ImageChain s o r qs p b)
-  image-greatest c = greatest-exists check-meets c
+  -- the greatest allowance exists when any does, and the fewest persons that have it
+  pub image-shortest : {ps : List ℕ} {a : ℕ} → ImageChain s o r ps p a → Shortest (λ qs b. ImageChain s o r qs p b)
+  image-shortest c = shortest-exists check-meets c
+
+  -- the number of persons is the fewest of a best chain
+  pub persons-decide : (n : ℕ)
+      → FewestPersons (λ ps a. ImageChain s o r ps p a) n ↔ (chainFound s buffer p o r .yes ≡ true) × (chainFound s buffer p o r .persons ≡ n)
+  persons-decide n = meets-persons check-meets n
+
+  -- the chain that is written names nobody twice
+  pub check-nobody-twice : chainFound s buffer p o r .yes ≡ true
+      → NobodyTwice (take (chainFound s buffer p o r .persons) (chainBuffer s buffer p o r))
+  check-nobody-twice y = nobody-twice (given check-meets y)
 
   -- 'A question about dead items is answered no'
   pub dead-answered-no : liveIn grantBytes (s .grants) p && liveIn grantBytes (s .grants) o ≡ false → chainFound s buffer p o r .yes ≡ false

@@ -1,6 +1,7 @@
 -- Rounds and chains: an entry of round k is 1 + the greatest allowance of the chains with k loans, and what is read off the rounds is
--- such a chain. So what the search finds is what the chains of its 64 grant bytes and its loans say (`best-meets`); these are the chains
--- of the images on the item and right (`given-chain`, `image-chain`), so the check's answer and chain buffer are what those say (`meets`).
+-- such a chain. The round it is read off is the first with the greatest entry, so no best chain has fewer loans (`no-shorter`).
+-- So what the search finds is what the chains of its 64 grant bytes and its loans say (`best-meets`); these are the chains of the images
+-- on the item and right (`given-chain`, `image-chain`), so the check's answer and chain buffer are what those say (`meets`).
 use mathlib.Core.Path.{_≡_, refl, sym, ap, _∙_, subst}
 use mathlib.Core.Bool.{Bool, true, false≢true}
 use mathlib.Core.List.{List, [], _∷_, _++_}
@@ -20,16 +21,16 @@ use Rattle.model.specs.Answers.{Found, nothing}
 use Rattle.model.specs.Journal.{grant}
 use Rattle.bits.specs.Cells.{at}
 use Rattle.layouts.specs.Layouts.{grantBytes, liveIn, inOrder}
-use Rattle.model.specs.Chain.{granted, lent, Meets}
+use Rattle.model.specs.Chain.{granted, lent, Meets, Shortest, FewestPersons}
 use Rattle.delegation.specs.Loans.{lender, borrower, loanDepth, used, wordGood, loansInOrder}
 use Rattle.delegation.specs.Images.{Images, standingIn, ImageChain}
 use Rattle.delegation.specs.Picking.{picked}
-use Rattle.delegation.specs.Search.{grantsOf, GivenChain, height, grantRound, gain, arrive, arriving, nextRound, roundAt, column, lenderTo, traced, roundsOf, heightOf, lengthOf, bestOf, bestChain, foundOf, chainOf}
+use Rattle.delegation.specs.Search.{grantsOf, GivenChain, height, grantRound, gain, arrive, arriving, nextRound, roundAt, column, lenderTo, traced, roundsOf, heightOf, lengthOf, fewestPersons, bestOf, bestChain, foundOf, chainOf}
 use Rattle.bits.proofs.Sets.{fst, snd, both, find, eqb-self}
-use Rattle.bits.proofs.Indexed.{getD-tabulate, most-above, first-most, split, any-at, find-at}
+use Rattle.bits.proofs.Indexed.{getD-tabulate, most-above, first-most, first-before, first-le, split, any-at, find-at}
 use Rattle.bits.proofs.Bits.{bit-high, bit-top}
 use Rattle.layouts.proofs.Layouts.{order-live, bytes-laws}
-use Rattle.model.proofs.Chain.{chain-map, meets-map}
+use Rattle.model.proofs.Chain.{chain-map, meets-map, meets-persons}
 use Rattle.delegation.proofs.Picking.{lent-picked}
 
 -- ---- a grant byte
@@ -157,6 +158,18 @@ module _ (bytes : List ℕ) (small : (i : ℕ) → i < 64 → getD bytes i 0 < 2
       let e = ap (λ (x : List ℕ). getD x p 0) (rounds-at (n .0) k) in
       omega (arith, n .3, most-above (column rounds p) 8 (n .0) k)
 
+  -- a best chain has no fewer loans than the one that is written
+  no-shorter : (p : ℕ) (ps : List ℕ) (a : ℕ) → suc a ≡ heightOf bytes ls p → GivenChain bytes ls ps p a
+      → fewestPersons bytes ls p ≤ length ps
+  unfolding heightOf lengthOf
+  no-shorter p ps a top c =
+      let n = complete c in
+      let f : ℕ → ℕ = column rounds p in
+      by-cases (decLt (n .0) (firstAt f 8))
+      (λ l. let e = ap (λ (x : List ℕ). getD x p 0) (rounds-at (n .0) (omega (arith, first-le f 7))) in
+      absurd (omega (arith, first-before f 8 (n .0) l, e, n .3, top)))
+      (λ l. omega (arith, n .2))
+
 -- ---- the search
 -- the answer of height v and n loans
 abbrev pub yesFound : ℕ → ℕ → Found
@@ -208,6 +221,7 @@ best-meets bytes small ls p hp =
       shown = λ t. absurd (false≢true t);
       padded = λ t. absurd (false≢true t);
       greatest = λ ps a c. absurd (omega (arith, above bytes small ls p ps a c));
+      fewest = λ ps c. absurd (omega (arith, above bytes small ls p ps 0 c));
       none = λ t. (refl, refl, refl);
     }))
     (λ ne. let a = best-yes bytes ls p ne in
@@ -225,8 +239,18 @@ best-meets bytes small ls p hp =
                 ∙ (let z : 7 - at ≡ 8 - (at + 1) = omega arith in λ j. replicate (z j) 255),
           );
       greatest = λ ps a c. (refl, omega (arith, above bytes small ls p ps a c));
+      fewest = λ ps c. no-shorter bytes small ls p ps (most f 8 - 1) (omega arith) c;
       none = λ t. absurd (false≢true (sym t));
     }))
+
+-- so the number it counts is the fewest persons of a best chain
+pub fewest-counted : (bytes : List ℕ) → ((i : ℕ) → i < 64 → getD bytes i 0 < 256) → (ls : List ℕ) (p : ℕ) → p ≤ 63 → (n : ℕ)
+    → FewestPersons (λ ps a. GivenChain bytes ls ps p a) n → n ≡ fewestPersons bytes ls p
+fewest-counted bytes small ls p hp n t =
+    let g : Shortest (λ ps a. GivenChain bytes ls ps p a) = t .0 in
+    let a = above bytes small ls p (g .persons) (g .depth) (g .chain) in
+    sym (meets-persons (best-meets bytes small ls p hp) n .0 t .1)
+    ∙ ap (λ (f : Found). f .persons) (best-yes bytes ls p (λ z. absurd (omega arith)) .0)
 
 -- ---- the check: the search is given the grant bytes of the item and right, and the loans picked for them
 -- a grant within the limits stands where its byte has the bit of its depth

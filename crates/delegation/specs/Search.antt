@@ -1,7 +1,8 @@
 -- The check's search, by the 64 grant bytes of the item and right and the loans picked for them, and nothing else: rounds by number of
 -- loans.
 -- Round k has for each person 0, or 1 + the greatest allowance of the chains to that person with exactly k loans. A loan costs one, so
--- rounds 0 to 7 have all chains. Which of the best chains is written is fixed here; what it is worth is `Meets` alone.
+-- rounds 0 to 7 have all chains. Which of the best chains with the fewest persons is written is fixed here; what it is worth is `Meets`
+-- alone.
 use mathlib.Core.Path.{_≡_}
 use mathlib.Core.Bool.{true, false, cond}
 use mathlib.Core.List.{List, [], _∷_, _++_}
@@ -77,15 +78,19 @@ roundsOf bytes ls = tabulate 8 (roundAt (grantRound bytes) ls)
 unfoldable pub heightOf : List ℕ → List ℕ → ℕ → ℕ
 heightOf bytes ls who = most (column (roundsOf bytes ls) who) 8
 
--- the loans of the chain that is written
+-- the loans of the chain that is written: the first round with the greatest entry has it
 unfoldable pub lengthOf : List ℕ → List ℕ → ℕ → ℕ
 lengthOf bytes ls who = firstAt (column (roundsOf bytes ls) who) 8
+
+-- 'Among chains with the greatest allowance .. one with the fewest persons': how many these are where a chain exists
+abbrev pub fewestPersons : List ℕ → List ℕ → ℕ → ℕ
+fewestPersons bytes ls who = lengthOf bytes ls who + 1
 
 -- what is found
 unfoldable pub bestOf : List ℕ → List ℕ → ℕ → Found
 bestOf bytes ls who =
     cond (eqb (heightOf bytes ls who) 0) (record { yes = false; depth = 0; persons = 0 })
-    (record { yes = true; depth = heightOf bytes ls who - 1; persons = lengthOf bytes ls who + 1 })
+    (record { yes = true; depth = heightOf bytes ls who - 1; persons = fewestPersons bytes ls who })
 
 -- the chain buffer: 'p0 first, 255 after the end'; 'on no, all 8 bytes are 255'
 unfoldable pub bestChain : List ℕ → List ℕ → ℕ → List ℕ

@@ -1,5 +1,5 @@
-// The search for the best chain of a person on one item and right: the greatest last allowance of any, and a chain that has it. It is
-// given the 64 grant bytes of that item and right and the loans picked for them, and nothing else.
+// The search for the best chain of a person on one item and right: the greatest last allowance of any, and of the chains that have it
+// one with the fewest persons. It is given the 64 grant bytes of that item and right and the loans picked for them, and nothing else.
 // Round k has for each person 0, or 1 + the greatest allowance of the chains to that person with exactly k loans; a loan costs one, so
 // rounds 0 to 7 have all chains.
 use delegation::loan;
@@ -313,7 +313,7 @@ fn rounds_of(ls: &[u32], first: [u8; PERSONS], who: Item) -> [[u8; PERSONS]; ROU
     rounds
 }
 
-// A person's greatest entry, and the first round that has it.
+// A person's greatest entry, and the first round that has it: with it the fewest loans.
 struct Entry {
     value: u8,
     at: usize,

@@ -16,6 +16,7 @@ use Rattle.model.specs.Chain.{Meets, JournalChain}
 use Rattle.delegation.specs.ChainUnit.{chainFound, chainBuffer}
 use Rattle.agreement.specs.Agreement.{Units, freshUnits, Agrees, Answers, Follows, flatStep}
 use Rattle.bits.proofs.Sets.{by-cases}
+use Rattle.model.proofs.Chain.{given}
 use Rattle.agreement.proofs.Agreement.{agreement}
 use Rattle.lines.specs.declared.Parsed.{Parsed}
 use Rattle.lines.specs.declared.Parsed.the-variants.{Run, Ask, Malformed}
@@ -80,9 +81,11 @@ module _ (j k : Journal) (n p o r : ℕ) where
       → CheckLine j k n p o r (outputLine n (checked 0 f) via)
   check-settled f via e m =
       by-cases (f .yes)
-      (λ y. subst (CheckLine j k n p o r)
-      (sym (rw y (chain-line n (grantSaid k p o r) (grantSaid k p o r) Yes (f .depth) (f .persons) via)))
-      (found e (record { persons = take (f .persons) via; depth = f .depth; chain = m .shown y; most = λ ps b c. m .greatest ps b c .1 })))
+      (λ y. let shown : List ℕ = take (f .persons) via in
+      let line : CheckLine j k n p o r
+      (outputLine n (reply (grantSaid k p o r) (grantSaid k p o r) Yes (Chain (f .depth) (length shown))) shown)
+      = found e (given m y) in
+      subst (CheckLine j k n p o r) (sym (rw y (chain-line n (grantSaid k p o r) (grantSaid k p o r) Yes (f .depth) (f .persons) via))) line)
       (λ y. subst (CheckLine j k n p o r) (sym (rw y (dashes-line n (grantSaid k p o r) (grantSaid k p o r) No via)))
       (none e (λ ps b c. true≢false (sym (m .greatest ps b c .0) ∙ y))))
 

@@ -9,7 +9,7 @@ use Rattle.bits.specs.Sets.{any}
 use Rattle.model.specs.declared.Command.{Command}
 use Rattle.model.specs.Answers.{asked, flat}
 use Rattle.model.specs.Journal.{Journal, answered, fresh, step, hasGrant, isDrop}
-use Rattle.model.specs.Chain.{Greatest, JournalChain}
+use Rattle.model.specs.Chain.{Shortest, JournalChain}
 use Rattle.agreement.specs.Agreement.{flatStep}
 use Rattle.lines.specs.declared.Parsed.{Parsed}
 use Rattle.lines.specs.declared.Parsed.the-variants.{Run, Ask, Malformed}
@@ -38,8 +38,8 @@ pub data CheckLine (j k : Journal) (n p o r : ℕ) : List ℕ → Type 0 where
   -- no chain is there
   none : asked p o r ≡ 0 → ((ps : List ℕ) (a : ℕ) → JournalChain j o r ps p a → ⊥)
       → CheckLine j k n p o r (outputLine n (reply (grantSaid k p o r) (grantSaid k p o r) No Dashes) [])
-  -- a chain with the greatest last allowance of any: that depth, and its persons
-  found : asked p o r ≡ 0 → (g : Greatest (λ ps a. JournalChain j o r ps p a))
+  -- a chain with the greatest last allowance of any and, of those, the fewest persons: that depth, and its persons
+  found : asked p o r ≡ 0 → (g : Shortest (λ ps a. JournalChain j o r ps p a))
       → CheckLine j k n p o r
       (outputLine n (reply (grantSaid k p o r) (grantSaid k p o r) Yes (Chain (g .depth) (length (g .persons)))) (g .persons))
 
