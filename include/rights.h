@@ -67,7 +67,7 @@ extern "C" {
 #endif
 
 /* Which engine this header is of: 10000 * major + 100 * minor + patch, and the date of the images' layout as digits. */
-#define RIGHTS_VERSION 10700
+#define RIGHTS_VERSION 10800
 #define RIGHTS_LAYOUT_DATE 20261117
 
 /* Enough stack below the caller's frame: for any call but one on a ticket image, and for any call. */
@@ -319,8 +319,9 @@ RIGHTS_NODISCARD uint32_t rights_chains_shift(uint8_t *grants, size_t bytes, uin
 
 /*
  * Whether a chain of grants and carrying loans leads to who. `persons_max` is RIGHTS_CHAIN_PERSONS. 0 to 3.
- * Yes exactly when it returns 0 and *persons is 1 to 8: *depth is the greatest depth that any chain ends with, and chain has the
- * persons of one that does, the grant's first, RIGHTS_NO_PERSON after the last.
+ * Yes exactly when it returns 0 and *persons is 1 to 8: *depth is the greatest depth that any chain ends with, *persons the fewest
+ * persons of a chain that does, and chain has the persons of one with so many, nobody twice, the grant's first, RIGHTS_NO_PERSON
+ * after the last. Which of several such chains it is may change with the version.
  * No: it returns 0, *depth and *persons are 0, and every byte of chain is RIGHTS_NO_PERSON.
  */
 RIGHTS_NODISCARD uint32_t rights_chains_check(const uint8_t *grants, size_t bytes, const uint32_t *loans, size_t words,

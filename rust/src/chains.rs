@@ -401,7 +401,29 @@ impl Chains {
     }
 
     /// Whether a chain of grants and carrying loans gives `who` the right on the item, with the
-    /// greatest depth of any.
+    /// greatest depth of any and, among the chains with that depth, the fewest persons.
+    ///
+    /// ```
+    /// use rights::{Chains, Depth, Item, Refusal, Right, Shift};
+    ///
+    /// let mut unit = Chains::fresh();
+    /// let (house, nurse, relief, student, drawer) = (Item(0), Item(3), Item(4), Item(5), Item(9));
+    /// for item in [nurse, relief, student, drawer] {
+    ///     unit.create(house, item)?;
+    /// }
+    /// let refill = Right(1);
+    /// unit.allow(house, nurse, drawer, refill, Depth(2))?;
+    /// unit.lend(nurse, relief, drawer, refill, Depth(1), Shift(0))?;
+    /// unit.lend(relief, student, drawer, refill, Depth(0), Shift(0))?;
+    /// let far = unit.check(student, drawer, refill)?;
+    /// assert_eq!((far.depth(), far.persons()), (Depth(0), &[nurse, relief, student][..]));
+    ///
+    /// // A direct loan that ends with the same depth: fewer hands.
+    /// unit.lend(nurse, student, drawer, refill, Depth(0), Shift(0))?;
+    /// let near = unit.check(student, drawer, refill)?;
+    /// assert_eq!((near.depth(), near.persons()), (Depth(0), &[nurse, student][..]));
+    /// # Ok::<(), Refusal>(())
+    /// ```
     pub fn check(&self, who: Item, on: Item, right: Right) -> Result<CheckAnswer, Refusal> {
         let mut chain = [NO_PERSON as u8; CHAIN_PERSONS];
         let (grants, loans) = (&self.grants, &self.loans);
@@ -467,7 +489,9 @@ impl CheckAnswer {
         self.depth
     }
 
-    /// The persons of the chain, the one with the grant first; none on no.
+    /// The persons of the chain, the one with the grant first, nobody twice; none on no. No chain
+    /// that ends with this depth has fewer; which of several with as few it is may change with the
+    /// version.
     #[must_use]
     pub fn persons(&self) -> &[Item] {
         self.chain.get(..self.persons as usize).unwrap_or_default()

@@ -245,7 +245,8 @@ pub mod chains {
         pub number: u32,
         /// The depth the chain ends with; 0 on no and beside a refusal.
         pub depth: u32,
-        /// The number of persons in the chain; 0 on no and beside a refusal.
+        /// The number of persons in the chain, the fewest of any that ends with this depth; 0 on
+        /// no and beside a refusal.
         pub persons: u32,
     }
 
@@ -312,7 +313,8 @@ pub mod chains {
     );
 
     /// check (who, on, right), with a buffer of [`CHAIN_PERSONS`](crate::CHAIN_PERSONS) bytes for
-    /// the chain.
+    /// the chain: one with the greatest depth of any and, among those, the fewest persons. Which of
+    /// several such chains it is may change with the version.
     pub fn check(
         grants: &[u8],
         loans: &[u32],
