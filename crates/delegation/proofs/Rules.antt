@@ -95,8 +95,8 @@ module _ (s : Images) (bytes : (i : ℕ) → getD (s .grants) i 0 < 256) (buffer
   image-shortest c = shortest-exists check-meets c
 
   -- the number of persons is the fewest of a best chain
-  pub persons-decide : (n : ℕ)
-      → FewestPersons (λ ps a. ImageChain s o r ps p a) n ↔ (chainFound s buffer p o r .yes ≡ true) × (chainFound s buffer p o r .persons ≡ n)
+  pub persons-decide : (n : ℕ) → FewestPersons (λ ps a. ImageChain s o r ps p a) n
+      ↔ (chainFound s buffer p o r .yes ≡ true) × (chainFound s buffer p o r .persons ≡ n)
   persons-decide n = meets-persons check-meets n
 
   -- the chain that is written names nobody twice

@@ -85,7 +85,8 @@ module _ (j k : Journal) (n p o r : ℕ) where
       let line : CheckLine j k n p o r
       (outputLine n (reply (grantSaid k p o r) (grantSaid k p o r) Yes (Chain (f .depth) (length shown))) shown)
       = found e (given m y) in
-      subst (CheckLine j k n p o r) (sym (rw y (chain-line n (grantSaid k p o r) (grantSaid k p o r) Yes (f .depth) (f .persons) via))) line)
+      subst (CheckLine j k n p o r)
+      (sym (rw y (chain-line n (grantSaid k p o r) (grantSaid k p o r) Yes (f .depth) (f .persons) via))) line)
       (λ y. subst (CheckLine j k n p o r) (sym (rw y (dashes-line n (grantSaid k p o r) (grantSaid k p o r) No via)))
       (none e (λ ps b c. true≢false (sym (m .greatest ps b c .0) ∙ y))))
 
