@@ -3,6 +3,7 @@
  * buffer with what the header's layouts say. It is C99 and C++. The status is 0 where nothing differs; else each difference is told.
  */
 #include <stdio.h>
+#include <stdlib.h>
 #include <string.h>
 
 #include "rights.h"
@@ -303,15 +304,21 @@ static void chains_loans(void)
     returned("chains recall, another last", rights_chains_recall(UNIT, HOLDER, BORROWER, DRAWER, RIGHT, LOAN_DEPTH, 0), 0);
 }
 
-/* A check of the chain unit: its number, the depth, the number of persons and the buffer's 8 bytes. */
-static void chains_check(const char *call, uint32_t who, uint32_t depth_due, uint32_t persons_due, const uint8_t *chain_due)
+/* A check of the chain unit: its number, the depth and the number of persons. The chain is left in the buffer. */
+static void chains_ask(const char *call, uint32_t who, uint32_t depth_due, uint32_t persons_due, uint8_t *chain)
 {
-    uint8_t chain[RIGHTS_CHAIN_PERSONS];
     uint32_t depth = 77, persons = 77;
-    memset(chain, 0xa5, sizeof chain);
+    memset(chain, 0xa5, RIGHTS_CHAIN_PERSONS);
     returned(call, rights_chains_check(UNIT, who, DRAWER, RIGHT, chain, RIGHTS_CHAIN_PERSONS, &depth, &persons), 0);
     same(call, "the depth", depth, depth_due);
     same(call, "the number of persons", persons, persons_due);
+}
+
+/* The same, and the buffer's 8 bytes. */
+static void chains_check(const char *call, uint32_t who, uint32_t depth_due, uint32_t persons_due, const uint8_t *chain_due)
+{
+    uint8_t chain[RIGHTS_CHAIN_PERSONS];
+    chains_ask(call, who, depth_due, persons_due, chain);
     same_bytes(call, "the chain", chain, chain_due, sizeof chain);
 }
 
@@ -319,6 +326,12 @@ static void chains_lend(uint32_t by, uint32_t to, uint32_t on, uint32_t right, u
 {
     loans_loan(loan(last, by, on, right, to, depth), 1);
     returned("chains lend", rights_chains_lend(UNIT, by, to, on, right, depth, last), 0);
+}
+
+static void chains_recall(uint32_t by, uint32_t to, uint32_t on, uint32_t right, uint32_t depth, uint32_t last)
+{
+    loans_loan(loan(last, by, on, right, to, depth), 0);
+    returned("chains recall", rights_chains_recall(UNIT, by, to, on, right, depth, last), 0);
 }
 
 static const uint8_t through[RIGHTS_CHAIN_PERSONS] = {HOLDER, BORROWER, OWNER, 255, 255, 255, 255, 255};
@@ -437,7 +450,7 @@ static void chains_refused_drops(void)
 /* A shift that is accepted: word 0 has it beside the count. */
 static void chains_shift(uint32_t now)
 {
-    loans_due[0] = now * 65536 + 2;
+    loans_due[0] = now * 65536 + loans_due[0] % 65536;
     returned("chains shift", rights_chains_shift(UNIT, ROOT, now), 0);
 }
 
@@ -546,15 +559,21 @@ static void chains_endings(void)
     returned("chains delete", rights_chains_delete(UNIT, OWNER, DRAWER), 0);
 }
 
-/* ---- a lender's loans end with its last grant of the right on the item */
-
-/* The holder has the right at two depths and the owner at one; nobody has lent. */
-static void lenders_grants(void)
+/* The unit made anew, and the drawer, on which nobody has the right. */
+static void chains_anew(void)
 {
     memset(grants_due, 0, sizeof grants_due);
     memset(loans_due, 0, sizeof loans_due);
     chains_start();
     chains_create(ROOT, DRAWER);
+}
+
+/* ---- a lender's loans end with its last grant of the right on the item */
+
+/* The holder has the right at two depths and the owner at one; nobody has lent. */
+static void lenders_grants(void)
+{
+    chains_anew();
     grants_grant(OWNER, DRAWER, 0, 4, 1);
     returned("chains allow, edit", rights_chains_allow(UNIT, ROOT, OWNER, DRAWER, 0, 4), 0);
     chains_allow(HOLDER, DRAWER, RIGHT, DEPTH);
@@ -575,8 +594,7 @@ static void lenders_loans(void)
     chains_lend(BORROWER, OWNER, DRAWER, RIGHT, 4, 0);
     chains_lend(OWNER, HOLDER, DRAWER, RIGHT, 1, LAST);
     chains_lend(DRAWER, BORROWER, HOLDER, RIGHT, 1, 0);
-    loans_due[0] += 2 * 65536;
-    returned("chains shift", rights_chains_shift(UNIT, ROOT, 2), 0);
+    chains_shift(2);
 }
 
 /* The holder's five. */
@@ -672,8 +690,7 @@ static void lenders_full(void)
     grants_grant(HOLDER, DRAWER, RIGHT, 2, 0);
     returned("chains withdraw, a lender of half the table", rights_chains_withdraw(UNIT, ROOT, HOLDER, DRAWER, RIGHT), 0);
     chains_lend(ROOT, OWNER, DRAWER, RIGHT, 4, 0);
-    loans_loan(loan(0, ROOT, DRAWER, RIGHT, OWNER, 4), 0);
-    returned("chains recall", rights_chains_recall(UNIT, ROOT, OWNER, DRAWER, RIGHT, 4, 0), 0);
+    chains_recall(ROOT, OWNER, DRAWER, RIGHT, 4, 0);
     chains_allow(OWNER, DRAWER, RIGHT, 5);
     chains_allow(OWNER, DRAWER, RIGHT, 0);
     chains_drop(ROOT, OWNER, DRAWER, RIGHT, 5);
@@ -703,6 +720,375 @@ static void lenders_limits(void)
     loans_loan(loans_due[1], 0);
     grants_grant(ROOT, ROOT, 1, 0, 0);
     returned("chains withdraw, the least", rights_chains_withdraw(UNIT, ROOT, ROOT, ROOT, 1), 0);
+}
+
+/*
+ * ---- the fewest persons: of the chains that end with the greatest depth a check gives one of the shortest. Persons 31 to 39; a chain is
+ * written as the program writes it, "31,32", and "-" where there is none.
+ */
+
+/* The buffer that such a chain makes, and its number of persons. */
+static uint32_t chain_of(const char *via, uint8_t *chain)
+{
+    uint32_t persons = 0;
+    char *end = NULL;
+    memset(chain, RIGHTS_NO_PERSON, RIGHTS_CHAIN_PERSONS);
+    for (; *via >= '0' && *via <= '9'; via = *end == ',' ? end + 1 : end)
+        chain[persons++] = (uint8_t)strtoul(via, &end, 10);
+    return persons;
+}
+
+/* There is one shortest best chain, and the check gives it. */
+static void fewest_check(const char *call, uint32_t who, uint32_t depth_due, const char *via)
+{
+    uint8_t chain_due[RIGHTS_CHAIN_PERSONS];
+    const uint32_t persons_due = chain_of(via, chain_due);
+    chains_check(call, who, depth_due, persons_due, chain_due);
+}
+
+/* There are several, and the check gives one of them; which one is open. */
+static void fewest_any(const char *call, uint32_t who, uint32_t depth_due, const char *const *vias, size_t count)
+{
+    uint8_t chain[RIGHTS_CHAIN_PERSONS], chain_due[RIGHTS_CHAIN_PERSONS];
+    unsigned found = 0;
+    chains_ask(call, who, depth_due, chain_of(vias[0], chain_due), chain);
+    for (size_t k = 0; k < count; k++) {
+        (void)chain_of(vias[k], chain_due);
+        found += memcmp(chain, chain_due, sizeof chain) == 0;
+    }
+    same(call, "how many of the shortest it is", found, 1);
+}
+
+static void fewest_start(void)
+{
+    chains_anew();
+    for (unsigned person = 31; person < 40; person++)
+        chains_create(ROOT, person);
+}
+
+static void fewest_allow(unsigned to, unsigned depth) { chains_allow(to, DRAWER, RIGHT, depth); }
+static void fewest_drop(unsigned to, unsigned depth) { chains_drop(ROOT, to, DRAWER, RIGHT, depth); }
+static void fewest_lend(uint32_t by, uint32_t to, uint32_t depth) { chains_lend(by, to, DRAWER, RIGHT, depth, 0); }
+static void fewest_recall(uint32_t by, uint32_t to, uint32_t depth) { chains_recall(by, to, DRAWER, RIGHT, depth, 0); }
+
+/* A direct loan beside a chain of three: of the same end, of a lesser and of a greater one. */
+static void fewest_direct(void)
+{
+    fewest_start();
+    fewest_allow(31, 4);
+    fewest_lend(31, 32, 2);
+    fewest_lend(32, 33, 1);
+    fewest_check("fewest, a chain of three", 33, 1, "31,32,33");
+    fewest_lend(31, 33, 1);
+    fewest_check("fewest, a direct loan of the same end", 33, 1, "31,33");
+    fewest_recall(31, 33, 1);
+    fewest_check("fewest, the direct loan recalled", 33, 1, "31,32,33");
+    fewest_lend(31, 33, 0);
+    fewest_check("fewest, a direct loan of a lesser end", 33, 1, "31,32,33");
+    fewest_lend(31, 33, 7);
+    fewest_check("fewest, a direct loan of a greater end", 33, 3, "31,33");
+    fewest_recall(31, 33, 7);
+    chains_lend(31, 33, DRAWER, SET_RIGHT, 1, 0);
+    chains_lend(31, 33, OWNER, RIGHT, 1, 0);
+    fewest_check("fewest, a direct loan of another right and item", 33, 1, "31,32,33");
+    fewest_check("fewest, the first", 31, 4, "31");
+    fewest_check("fewest, the second", 32, 2, "31,32");
+    fewest_check("fewest, no chain", 34, 0, "-");
+}
+
+/* An own grant beside a route through others: given where no chain ends with more, and not where one does. */
+static void fewest_own(void)
+{
+    fewest_start();
+    fewest_allow(34, 0);
+    fewest_check("fewest, an own grant", 34, 0, "34");
+    fewest_allow(31, 4);
+    fewest_lend(31, 32, 3);
+    fewest_lend(32, 34, 2);
+    fewest_check("fewest, an own grant of depth 0 beside a route with 2", 34, 2, "31,32,34");
+    fewest_allow(34, 1);
+    fewest_check("fewest, an own grant of depth 1 beside it", 34, 2, "31,32,34");
+    fewest_allow(34, 2);
+    fewest_check("fewest, an own grant of depth 2 beside it", 34, 2, "34");
+    fewest_drop(34, 2);
+    fewest_check("fewest, the own grant dropped", 34, 2, "31,32,34");
+    fewest_allow(34, 7);
+    fewest_check("fewest, an own grant of depth 7 beside it", 34, 7, "34");
+}
+
+/* The same depth by one, two and three persons: each of the eight sets of these ways. */
+static void fewest_equal(void)
+{
+    fewest_start();
+    fewest_allow(31, 4);
+    fewest_allow(32, 5);
+    fewest_lend(32, 33, 4);
+    fewest_check("fewest, no way", 35, 0, "-");
+    fewest_allow(35, 2);
+    fewest_check("fewest, one person", 35, 2, "35");
+    fewest_lend(31, 35, 2);
+    fewest_check("fewest, one person or two", 35, 2, "35");
+    fewest_lend(33, 35, 2);
+    fewest_check("fewest, one person, two or three", 35, 2, "35");
+    fewest_drop(35, 2);
+    fewest_check("fewest, two persons or three", 35, 2, "31,35");
+    fewest_recall(31, 35, 2);
+    fewest_check("fewest, three persons", 35, 2, "32,33,35");
+    fewest_allow(35, 2);
+    fewest_check("fewest, one person or three", 35, 2, "35");
+    fewest_recall(33, 35, 2);
+    fewest_drop(35, 2);
+    fewest_lend(31, 35, 2);
+    fewest_check("fewest, two persons", 35, 2, "31,35");
+}
+
+/*
+ * A lender has an own grant, and more through another. Where its loan binds, what it lends on is as deep by its own grant alone; where
+ * the loan is deeper, it is deeper through the other.
+ */
+static void fewest_lender(void)
+{
+    fewest_start();
+    fewest_allow(36, 2);
+    fewest_allow(31, 6);
+    fewest_lend(31, 36, 5);
+    fewest_lend(36, 37, 1);
+    fewest_lend(37, 38, 0);
+    fewest_check("fewest, a lender with more through another", 36, 5, "31,36");
+    fewest_check("fewest, by the lender's own grant", 37, 1, "36,37");
+    fewest_check("fewest, further down", 38, 0, "36,37,38");
+    fewest_lend(36, 37, 4);
+    fewest_check("fewest, by what the lender has through another", 37, 4, "31,36,37");
+    fewest_check("fewest, further down, by the own grant still", 38, 0, "36,37,38");
+    fewest_lend(37, 38, 1);
+    fewest_check("fewest, further down, a deeper loan", 38, 1, "31,36,37,38");
+}
+
+/* Each person more brings one more, up to five; each taken away brings the next shorter. */
+static void fewest_greatest(void)
+{
+    fewest_start();
+    fewest_allow(31, 7);
+    fewest_lend(31, 38, 0);
+    fewest_lend(31, 32, 7);
+    fewest_lend(32, 38, 1);
+    fewest_lend(32, 33, 7);
+    fewest_lend(33, 38, 2);
+    fewest_lend(33, 34, 7);
+    fewest_lend(34, 38, 3);
+    fewest_check("fewest, five persons for depth 3", 38, 3, "31,32,33,34,38");
+    fewest_allow(38, 2);
+    fewest_check("fewest, beside an own grant of depth 2", 38, 3, "31,32,33,34,38");
+    fewest_recall(34, 38, 3);
+    fewest_check("fewest, the own grant", 38, 2, "38");
+    fewest_drop(38, 2);
+    fewest_check("fewest, four persons for depth 2", 38, 2, "31,32,33,38");
+    fewest_recall(33, 38, 2);
+    fewest_check("fewest, three persons for depth 1", 38, 1, "31,32,38");
+    fewest_recall(32, 38, 1);
+    fewest_check("fewest, two persons for depth 0", 38, 0, "31,38");
+}
+
+/* Eight persons, as many as a chain has, alone and beside shorter ways of the same end; the ninth has nothing. */
+static void fewest_longest(void)
+{
+    fewest_start();
+    fewest_allow(31, 7);
+    for (uint32_t person = 31; person < 39; person++)
+        fewest_lend(person, person + 1, 7);
+    fewest_check("fewest, eight persons", 38, 0, "31,32,33,34,35,36,37,38");
+    fewest_check("fewest, seven persons", 37, 1, "31,32,33,34,35,36,37");
+    fewest_check("fewest, the ninth", 39, 0, "-");
+    fewest_lend(36, 38, 0);
+    fewest_check("fewest, seven beside eight", 38, 0, "31,32,33,34,35,36,38");
+    fewest_lend(34, 38, 0);
+    fewest_check("fewest, five beside them", 38, 0, "31,32,33,34,38");
+    fewest_lend(31, 38, 0);
+    fewest_check("fewest, two beside them", 38, 0, "31,38");
+    fewest_recall(31, 38, 0);
+    fewest_recall(34, 38, 0);
+    fewest_recall(36, 38, 0);
+    fewest_lend(32, 37, 0);
+    fewest_check("fewest, a short cut with too little left", 38, 0, "31,32,33,34,35,36,37,38");
+    fewest_check("fewest, at its end", 37, 1, "31,32,33,34,35,36,37");
+    fewest_lend(32, 37, 1);
+    fewest_check("fewest, a short cut on the way", 38, 0, "31,32,37,38");
+    fewest_lend(32, 37, 2);
+    fewest_check("fewest, a short cut with more left", 39, 0, "31,32,37,38,39");
+}
+
+/* Loans to oneself, back and around: chains that go through them end with as much, and none of them is given. */
+static void fewest_loops(void)
+{
+    fewest_start();
+    fewest_allow(31, 7);
+    fewest_lend(31, 32, 7);
+    fewest_lend(32, 33, 7);
+    fewest_lend(33, 34, 0);
+    fewest_check("fewest, without a loop", 34, 0, "31,32,33,34");
+    fewest_lend(32, 32, 7);
+    fewest_check("fewest, a loan to oneself", 34, 0, "31,32,33,34");
+    fewest_lend(33, 32, 7);
+    fewest_check("fewest, a loan back", 34, 0, "31,32,33,34");
+    fewest_lend(33, 31, 7);
+    fewest_check("fewest, a round of three", 34, 0, "31,32,33,34");
+    fewest_lend(31, 31, 7);
+    fewest_lend(34, 31, 7);
+    fewest_lend(34, 34, 7);
+    fewest_check("fewest, loops at both ends", 34, 0, "31,32,33,34");
+    fewest_check("fewest, the first of a round", 31, 7, "31");
+    fewest_check("fewest, the second of a round", 32, 6, "31,32");
+    fewest_check("fewest, the last of a round", 33, 5, "31,32,33");
+    fewest_lend(31, 33, 0);
+    fewest_check("fewest, a lesser way into a round", 33, 5, "31,32,33");
+    fewest_lend(31, 33, 5);
+    fewest_check("fewest, a shorter way into a round", 34, 0, "31,33,34");
+}
+
+/* A loan with a last shift is the short way in that shift; in the next the longer way is given, though the loan stands. */
+static void fewest_shifts(void)
+{
+    fewest_start();
+    fewest_allow(31, 4);
+    fewest_lend(31, 32, 3);
+    fewest_lend(32, 33, 2);
+    chains_lend(31, 33, DRAWER, RIGHT, 2, LAST);
+    chains_lend(32, 34, DRAWER, RIGHT, 2, LAST + 1);
+    fewest_lend(31, 34, 1);
+    chains_shift(LAST);
+    fewest_check("fewest, in the last shift of the short way", 33, 2, "31,33");
+    chains_shift(LAST + 1);
+    fewest_check("fewest, after it", 33, 2, "31,32,33");
+    fewest_check("fewest, in the last shift of the deeper way", 34, 2, "31,32,34");
+    chains_lend(31, 33, DRAWER, RIGHT, 2, LAST + 1);
+    fewest_check("fewest, lent anew", 33, 2, "31,33");
+    chains_shift(LAST + 2);
+    fewest_check("fewest, after the last shift of the deeper way", 34, 1, "31,34");
+    chains_lend(31, 33, DRAWER, RIGHT, 2, RIGHTS_SHIFT_MAX);
+    chains_shift(RIGHTS_SHIFT_MAX);
+    fewest_check("fewest, in the greatest shift", 33, 2, "31,33");
+    chains_recall(31, 33, DRAWER, RIGHT, 2, RIGHTS_SHIFT_MAX);
+    fewest_check("fewest, beside short ways that are past", 33, 2, "31,32,33");
+}
+
+/* The short way through 36 ends by recall, drop, withdraw and delete, and each time the longer is given. */
+static void fewest_ended(void)
+{
+    fewest_start();
+    fewest_allow(31, 3);
+    fewest_lend(31, 32, 2);
+    fewest_lend(32, 37, 1);
+    fewest_allow(36, 3);
+    fewest_allow(36, 0);
+    fewest_lend(36, 37, 1);
+    fewest_check("fewest, the short way", 37, 1, "36,37");
+    fewest_recall(36, 37, 1);
+    fewest_check("fewest, recalled", 37, 1, "31,32,37");
+    fewest_lend(36, 37, 1);
+    fewest_drop(36, 3);
+    fewest_check("fewest, dropped", 37, 1, "31,32,37");
+    fewest_allow(36, 3);
+    fewest_check("fewest, allowed again", 37, 1, "36,37");
+    grants_grant(36, DRAWER, RIGHT, 3, 0);
+    grants_grant(36, DRAWER, RIGHT, 0, 0);
+    loans_loan(loan(0, 36, DRAWER, RIGHT, 37, 1), 0);
+    returned("fewest, withdraw", rights_chains_withdraw(UNIT, ROOT, 36, DRAWER, RIGHT), 0);
+    fewest_check("fewest, withdrawn", 37, 1, "31,32,37");
+    fewest_allow(36, 3);
+    fewest_lend(36, 37, 1);
+    fewest_check("fewest, lent anew", 37, 1, "36,37");
+    grants_grant(36, DRAWER, RIGHT, 3, 0);
+    grants_grant(ROOT, 36, 0, 0, 0);
+    grants_item(36, 0);
+    loans_loan(loan(0, 36, DRAWER, RIGHT, 37, 1), 0);
+    returned("fewest, delete", rights_chains_delete(UNIT, ROOT, 36), 0);
+    fewest_check("fewest, deleted", 37, 1, "31,32,37");
+}
+
+/* Two shortest, two of eight persons, four, and two by another grant, beside longer ones. */
+static void fewest_several(void)
+{
+    static const char *const two[] = {"31,32,34", "31,33,34"};
+    static const char *const eight[] = {"31,32,34,36,37,38,39,47", "31,33,34,36,37,38,39,47"};
+    static const char *const four[] = {"31,32,34,5", "31,32,35,5", "31,33,34,5", "31,33,35,5"};
+    static const char *const direct[] = {"31,35", "32,35"};
+    fewest_start();
+    fewest_allow(31, 7);
+    fewest_lend(31, 32, 7);
+    fewest_lend(31, 33, 7);
+    fewest_lend(32, 33, 7);
+    fewest_lend(32, 34, 7);
+    fewest_lend(33, 34, 7);
+    fewest_any("fewest, two chains", 34, 5, two, 2);
+    fewest_lend(34, 36, 7);
+    for (uint32_t person = 36; person < 39; person++)
+        fewest_lend(person, person + 1, 7);
+    fewest_lend(39, BORROWER, 7);
+    fewest_any("fewest, two chains of eight", BORROWER, 0, eight, 2);
+    fewest_lend(32, 35, 4);
+    fewest_lend(33, 35, 4);
+    fewest_lend(34, OWNER, 1);
+    fewest_lend(35, OWNER, 1);
+    fewest_any("fewest, four chains", OWNER, 1, four, 4);
+    fewest_allow(32, 7);
+    fewest_lend(31, 35, 4);
+    fewest_any("fewest, two grants", 35, 4, direct, 2);
+    fewest_recall(32, 35, 4);
+    fewest_check("fewest, one of the two recalled", 35, 4, "31,35");
+}
+
+/*
+ * Every loan among persons 31 to 38, to oneself and at each depth, open-ended and with last shift 3; but 31 lends to itself and to those up
+ * to the last given alone.
+ */
+static void fewest_crowd(uint32_t shift, uint32_t last_borrower)
+{
+    uint32_t count = 0;
+    memset(loans_due, 0, sizeof loans_due);
+    for (uint32_t n = 0; n < RIGHTS_LOANS_MAX; n++) {
+        const uint32_t lender = 31 + n / 64 % 8, borrower = 31 + n / 8 % 8;
+        if (lender != 31 || borrower <= last_borrower)
+            loans_due[++count] = loan(3 * (n / 512), lender, DRAWER, RIGHT, borrower, n % 8);
+    }
+    loans_due[0] = shift * 65536 + count;
+    memcpy(loans, loans_due, sizeof loans);
+}
+
+static void fewest_crowded(void)
+{
+    static const char *const three[] = {"31,32,38", "31,33,38", "31,34,38"};
+    fewest_start();
+    fewest_allow(31, 7);
+    fewest_allow(38, 4);
+    fewest_crowd(3, 38);
+    fewest_check("fewest, in a full table", 37, 6, "31,37");
+    fewest_check("fewest, in a full table", 38, 6, "31,38");
+    fewest_check("fewest, in a full table, the first", 31, 7, "31");
+    fewest_crowd(4, 32);
+    fewest_check("fewest, in a crowd through one", 37, 5, "31,32,37");
+    fewest_check("fewest, in a crowd through one", 38, 5, "31,32,38");
+    fewest_check("fewest, in a crowd, the one", 32, 6, "31,32");
+    fewest_crowd(4, 34);
+    fewest_any("fewest, in a crowd through one of three", 38, 5, three, 3);
+}
+
+/* The least person and the greatest, one after the other and with one between. */
+static void fewest_limits(void)
+{
+    fewest_start();
+    chains_create(ROOT, RIGHTS_ITEM_MAX);
+    fewest_allow(ROOT, 2);
+    fewest_lend(ROOT, 31, 1);
+    fewest_lend(31, RIGHTS_ITEM_MAX, 0);
+    fewest_check("fewest, from the least person to the greatest", RIGHTS_ITEM_MAX, 0, "0,31,63");
+    fewest_lend(ROOT, RIGHTS_ITEM_MAX, 0);
+    fewest_check("fewest, directly", RIGHTS_ITEM_MAX, 0, "0,63");
+    fewest_allow(RIGHTS_ITEM_MAX, 4);
+    fewest_lend(RIGHTS_ITEM_MAX, ROOT, 2);
+    fewest_check("fewest, the greatest person alone", RIGHTS_ITEM_MAX, 4, "63");
+    fewest_check("fewest, the least person alone, and not through the greatest", ROOT, 2, "0");
+    fewest_lend(RIGHTS_ITEM_MAX, ROOT, 3);
+    fewest_check("fewest, from the greatest person to the least", ROOT, 3, "63,0");
 }
 
 /* ---- the ticket unit. Its tickets lie at places, and their numbers are those of the calls that issued them. */
@@ -1141,6 +1527,18 @@ int main(void)
     lenders_endings();
     lenders_full();
     lenders_limits();
+    fewest_direct();
+    fewest_own();
+    fewest_equal();
+    fewest_lender();
+    fewest_greatest();
+    fewest_longest();
+    fewest_loops();
+    fewest_shifts();
+    fewest_ended();
+    fewest_several();
+    fewest_crowded();
+    fewest_limits();
     tickets_start();
     tickets_answers();
     tickets_records();
