@@ -1056,6 +1056,7 @@ static void fewest_crowd(uint32_t shift, uint32_t last_borrower)
 
 static void fewest_crowded(void)
 {
+    static const char *const either[] = {"31,37,39", "38,37,39"};
     static const char *const three[] = {"31,32,38", "31,33,38", "31,34,38"};
     fewest_start();
     fewest_allow(31, 7);
@@ -1064,12 +1065,19 @@ static void fewest_crowded(void)
     fewest_check("fewest, in a full table", 37, 6, "31,37");
     fewest_check("fewest, in a full table", 38, 6, "31,38");
     fewest_check("fewest, in a full table, the first", 31, 7, "31");
+    chains_recall(38, 38, DRAWER, RIGHT, 7, 3);
+    fewest_lend(37, 39, 0);
+    fewest_any("fewest, in a full table, beside longer ones", 39, 0, either, 2);
     fewest_crowd(4, 32);
     fewest_check("fewest, in a crowd through one", 37, 5, "31,32,37");
     fewest_check("fewest, in a crowd through one", 38, 5, "31,32,38");
     fewest_check("fewest, in a crowd, the one", 32, 6, "31,32");
+    fewest_lend(37, 39, 0);
+    fewest_check("fewest, in a crowd, beside longer ones", 39, 0, "38,37,39");
     fewest_crowd(4, 34);
     fewest_any("fewest, in a crowd through one of three", 38, 5, three, 3);
+    fewest_lend(38, 39, 0);
+    fewest_check("fewest, in a crowd, by an own grant", 39, 0, "38,39");
 }
 
 /* The least person and the greatest, one after the other and with one between. */
