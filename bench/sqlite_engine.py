@@ -2,7 +2,8 @@
 """The program as an SQLite engine: the state in tables, the chain check as a recursive query.
 
 Reads document 01's command lines and allowset from standard input, with last=0 for loans, and writes the program's
-output. Lists and rows are answered from the same table of grants. Every loan is taken as open-ended.
+output. Lists and rows are answered from the same table of grants. Every loan is taken as open-ended. Of several best
+chains it need not give one with the fewest persons: it is held to the depth, and to a chain that has it.
 """
 
 import re

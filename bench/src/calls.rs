@@ -206,10 +206,20 @@ fn ending_cases() -> Vec<Case<Chains, Lending>> {
 }
 
 /// A check of the key for the next of the 64 persons.
-fn check_step(u: &Chains, s: &mut ChainState) -> u64 {
+fn check_next(u: &Chains, s: &mut ChainState) -> Found {
     let q = Question { who: s.who, on: KEY.0, right: KEY.1 };
-    let found = (u.check)(&s.grants, &s.loans, q, &mut s.chain);
     s.who = (s.who + 1) % 64;
+    (u.check)(&s.grants, &s.loans, q, &mut s.chain)
+}
+
+fn check_step(u: &Chains, s: &mut ChainState) -> u64 {
+    let found = check_next(u, s);
+    u64::from(found.number + 16 * found.depth + 256 * found.persons)
+}
+
+/// Yes or no in the place of the number of persons, which settling need not have as the fewest.
+fn settling_step(u: &Chains, s: &mut ChainState) -> u64 {
+    let found = check_next(u, s);
     u64::from(found.number + 16 * found.depth + 256 * u32::from(found.persons != 0))
 }
 
@@ -251,7 +261,8 @@ pub fn checks() -> Vec<Line> {
 
 /// The checks beside open-ended loans against plain Rust that settles each person once.
 pub fn settling_checks() -> Vec<Line> {
-    check_cases().into_iter().map(|case| run(case, &ENGINE.chains, &SETTLING)).collect()
+    let cases = check_cases().into_iter().map(|case| Case { step: settling_step, ..case });
+    cases.map(|case| run(case, &ENGINE.chains, &SETTLING)).collect()
 }
 
 /// Single commands one after another against one that does the same at once, both by the engine. Before the timing: both

@@ -1,6 +1,6 @@
 //! The program and its SQLite version, on the same streams of command lines.
 
-use crate::streams::{self, Line};
+use crate::streams::{self, Line, Via};
 use std::fs::{self, File};
 use std::path::{Path, PathBuf};
 use std::process::Command;
@@ -64,11 +64,11 @@ fn timed(command: &mut Command, folder: &Path, lines: &[Line]) -> (f64, String) 
 }
 
 /// Lines a second after the opening, whose time and the start of the program are taken off. The output is held
-/// against document 01.
-fn rate(command: &mut Command, folder: &Path, lines: &[Line], opening: usize) -> f64 {
+/// against documents 01 and 02, its chains as `kind` says.
+fn rate(command: &mut Command, folder: &Path, lines: &[Line], opening: usize, kind: Via) -> f64 {
     let (start, _) = timed(command, folder, &lines[..opening]);
     let (whole, output) = timed(command, folder, lines);
-    streams::audit(lines, &output);
+    streams::audit(lines, &output, kind);
     (lines.len() - opening) as f64 / (whole - start)
 }
 
@@ -83,12 +83,12 @@ fn print_stream(stream: &Stream, folder: &Path) {
     let Stream { name, lines, opening, for_sqlite } = stream;
     let mut python = Command::new("python3");
     python.arg(Path::new(HERE).join("sqlite_engine.py"));
-    let sqlite = rate(&mut python, folder, &lines[..*for_sqlite], *opening);
+    let sqlite = rate(&mut python, folder, &lines[..*for_sqlite], *opening, Via::Best);
     if !program().exists() {
         println!("| {name} | not built | {sqlite:.0} | - |");
         return;
     }
-    let engine = rate(&mut Command::new(program()), folder, lines, *opening);
+    let engine = rate(&mut Command::new(program()), folder, lines, *opening, Via::Shortest);
     println!("| {name} | {engine:.0} | {sqlite:.0} | {:.0} |", engine / sqlite);
 }
 

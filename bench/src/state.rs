@@ -75,7 +75,7 @@ pub struct ChainState {
     pub who: u32,
 }
 
-/// Which of several best chains a check writes is open, so the buffer is no part of the comparison.
+/// Which of the shortest best chains a check writes is open, so the buffer is no part of the comparison.
 impl PartialEq for ChainState {
     fn eq(&self, other: &ChainState) -> bool {
         self.grants == other.grants && self.loans == other.loans

@@ -1,8 +1,9 @@
-//! Command lines for the program, and what documents 01 and 02 say of each, by the plain implementation.
+//! Command lines for the program, and what documents 01 and 02 say of each: of commands by the plain implementation, of
+//! chains by an exhaustive count.
 
 use crate::api::*;
 use crate::plain::PLAIN;
-use crate::state::{fresh_flat, is_chain, ChainState, Seeded, KEY};
+use crate::state::{fewest, fresh_flat, is_chain, ChainState, Seeded, KEY};
 use std::collections::VecDeque;
 use std::fmt::Write;
 
@@ -171,6 +172,15 @@ pub fn allow_sets(count: usize) -> Vec<Line> {
     lines
 }
 
+/// Which of several best chains an output may have.
+#[derive(Clone, Copy, PartialEq)]
+pub enum Via {
+    /// Any of those with the fewest persons.
+    Shortest,
+    /// Any, of a program that does not look for the fewest.
+    Best,
+}
+
 /// The three units, run by the plain implementation.
 struct Units {
     lists: Vec<u64>,
@@ -208,27 +218,26 @@ impl Units {
     }
 
     /// The fields of a check that isn't refused, up to `via=` and its value where the answer is yes.
-    fn check(&mut self, q: Question) -> (String, Found) {
+    fn check(&self, q: Question) -> (String, Found) {
         let word = |yes| if yes { "yes" } else { "no" };
         let list = word((PLAIN.lists.check)(&self.lists, q).value == 1);
         let row = word((PLAIN.rows.check)(&self.rows, q).value == 1);
-        let state = &mut self.chains;
-        let found = (PLAIN.chains.check)(&state.grants, &state.loans, q, &mut state.chain);
+        let (depth, persons) = fewest(&self.chains.grants, &self.chains.loans, q);
         let mut text = format!("list={list} row={row} ");
-        match found.persons {
+        match persons {
             0 => text.push_str("chain=no depth=- via=-"),
-            _ => write!(text, "chain=yes depth={} via=", found.depth).expect("a string takes it"),
+            _ => write!(text, "chain=yes depth={depth} via=").expect("a string takes it"),
         }
-        (text, found)
+        (text, Found { number: DONE, depth, persons })
     }
 
-    /// Whether the text is what the units answer to the line; of several best chains any is right.
-    fn accepts(&mut self, line: &Line, text: &str) -> bool {
+    /// Whether the text is what the units answer to the line, with a chain of that kind.
+    fn accepts(&mut self, line: &Line, text: &str, kind: Via) -> bool {
         if let Line::Check(q) = *line {
             let (fields, found) = self.check(q);
             return match (text.strip_prefix(&fields), found.persons) {
                 (Some(rest), 0) => rest.is_empty(),
-                (Some(via), _) => self.is_via(q, via, found.depth),
+                (Some(via), _) => self.is_via(q, via, found, kind),
                 (None, _) => false,
             };
         }
@@ -238,23 +247,26 @@ impl Units {
         }
     }
 
-    fn is_via(&self, q: Question, via: &str, depth: u32) -> bool {
+    /// Whether the persons are a chain with the depth found, and as many as were found where it is to be a shortest.
+    fn is_via(&self, q: Question, via: &str, found: Found, kind: Via) -> bool {
         let Ok(persons) = via.split(',').map(str::parse).collect::<Result<Vec<u8>, _>>() else {
             return false;
         };
-        let found = Found { number: DONE, depth, persons: persons.len() as u32 };
-        persons.iter().all(|&p| p < 64) && is_chain(&self.chains.grants, &self.chains.loans, q, &persons, found)
+        let given = Found { persons: persons.len() as u32, ..found };
+        (kind == Via::Best || given == found)
+            && persons.iter().all(|&p| p < 64)
+            && is_chain(&self.chains.grants, &self.chains.loans, q, &persons, given)
     }
 }
 
 /// Holds an output against the lines, line by line.
-pub fn audit(lines: &[Line], output: &str) {
+pub fn audit(lines: &[Line], output: &str, kind: Via) {
     let mut units = Units::fresh();
     let mut answers = output.lines();
     for (at, line) in lines.iter().enumerate() {
         let answer = answers.next().unwrap_or("");
         let fields = answer.strip_prefix(&format!("line={} ", at + 1));
-        let right = fields.is_some_and(|text| units.accepts(line, text));
+        let right = fields.is_some_and(|text| units.accepts(line, text, kind));
         assert!(right, "'{}' was answered '{answer}'", line.text());
     }
     assert_eq!(answers.next(), Some(&*format!("lines={}", lines.len())), "the last line");
