@@ -1,6 +1,8 @@
 //! Writes down what the archive that is linked answers to seeded commands and checks, one record a
 //! line, so that the records of two archives can be compared. The model, never the archive, decides
-//! what is asked: the same seed asks the same of every archive.
+//! what is asked: the same seed asks the same of every archive. Of each check it also says the depth
+//! and the number of persons, and the program fails where the archive says another; which of the
+//! shortest best chains is written is open, and the records alone have it.
 
 mod damaged;
 mod dense;
@@ -95,6 +97,7 @@ fn every_list(file: &Path) -> Totals {
 fn main() {
     let file = std::env::args_os().nth(1).expect("the file for the records");
     let totals = every_list(Path::new(&file));
+    totals.assert_fewest();
     totals.assert_broad();
     println!("version: {}", rights::version());
     totals.print();

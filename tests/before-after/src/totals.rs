@@ -24,6 +24,8 @@ pub struct Totals {
     pub buffers: u64,
     pub damaged: u64,
     pub records: u64,
+    /// Checks with another depth than the model's best chains, or more persons than the shortest.
+    apart: u64,
     /// Checks by persons of the chain, from 1 on.
     lengths: [u64; 8],
     situations: [u64; SITUATIONS.len()],
@@ -55,6 +57,8 @@ impl Totals {
     /// Counts the answer to a question; `own` is the greatest depth granted to the person itself.
     pub fn check(&mut self, key: &Key, who: u32, own: Option<u32>, checked: Checked) {
         let best = key.endings.best(who);
+        let due = best.map_or((0, 0), |best| (best.allowance as u32, best.loans as u32 + 1));
+        self.apart += u64::from((checked.depth, checked.persons) != due);
         let holds = |is: &dyn Fn(Best) -> bool| best.is_some_and(is);
         let several = holds(&|best| best.shortest > 1);
         let are = [
@@ -89,6 +93,11 @@ impl Totals {
         println!("damaged images: {}", self.damaged);
         println!("records: {}", self.records);
         self.named().for_each(|(name, count)| println!("{name}: {count}"));
+    }
+
+    /// Every check had the greatest depth and the fewest persons.
+    pub fn assert_fewest(&self) {
+        assert_eq!(self.apart, 0, "checks without the greatest depth or the fewest persons");
     }
 
     /// Every situation came up.
