@@ -13,7 +13,8 @@ use generator::{seed, Bias, Generator, Trace, BIASES};
 use images::Images;
 use judge::{flat_answer, judge_chain};
 use model::{
-    image_of, loans_image, Command, GrantLayout, Journal, Journals, Layout, ListLayout, RowLayout,
+    image_of, loans_image, BestChain, Command, GrantLayout, Journal, Journals, Layout, ListLayout,
+    RowLayout,
 };
 use rights::lent;
 use situations::Situations;
@@ -129,7 +130,7 @@ impl Run {
             let question = self.generator.question(journal);
             let (who, on, right) = question;
             let known = who < 64 && on < 64 && right < 8;
-            let best = known.then(|| journal.best(on, right));
+            let best = known.then(|| journal.best_chains(on, right));
             self.check(question, best.and_then(|best| best[who as usize]));
             if let Some(best) = best.filter(|_| n == 0) {
                 self.counts.situations.answer(&self.journals, question, best);
@@ -140,7 +141,7 @@ impl Run {
 
     /// The checks of every person on the item and right.
     fn key(&mut self, on: u32, right: u32) {
-        let best = self.journals.chains.best(on, right);
+        let best = self.journals.chains.best_chains(on, right);
         for who in 0..64 {
             self.check((who, on, right), best[who as usize]);
         }
@@ -154,7 +155,7 @@ impl Run {
         self.images.compare(&self.expected);
     }
 
-    fn check(&mut self, question: (u32, u32, u32), best: Option<u32>) {
+    fn check(&mut self, question: (u32, u32, u32), best: Option<BestChain>) {
         let flat = flat_answer(&self.journals.flat, question);
         assert_eq!(ListLayout::check(&self.images.lists, question), flat, "{question:?}");
         assert_eq!(RowLayout::check(&self.images.rows, question), flat, "{question:?}");

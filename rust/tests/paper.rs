@@ -11,8 +11,8 @@ use model::commands::{
     allow, allow_set, create, delete, drop, lend, recall, shift, withdraw, BASE,
 };
 use model::{
-    head_of, loan_of, loans_image, loans_in_order, word_of, Command, Ending, Grant, Head, Journal,
-    Journals, Loan, Numbers,
+    head_of, loan_of, loans_image, loans_in_order, word_of, BestChain, Command, Ending, Grant,
+    Head, Journal, Journals, Loan, Numbers,
 };
 
 const ON: u32 = 9;
@@ -411,31 +411,102 @@ fn constants() {
 }
 
 /// Every chain there is, walked one by one: its ending and those of all that prolong it.
-fn walk(journal: &Journal, last: Ending, persons: u32, all: &mut Vec<(Ending, u32)>) {
-    all.push((last, persons));
+fn walk(journal: &Journal, last: Ending, all: &mut Vec<Ending>) {
+    all.push(last);
     for longer in journal.longer(last, journal.shift, ON, RIGHT) {
-        walk(journal, longer, persons + 1, all);
+        walk(journal, longer, all);
     }
 }
 
-/// The endings found are those of all chains, and no chain has more than 8 persons.
+/// The endings found are those of all chains, each with the fewest persons of the chains that have it,
+/// and no chain has more than 8 persons.
 #[test]
 fn endings_are_those_of_all_chains() {
     let mut random = Random::new(1);
     for _ in 0..300 {
-        let journal = small(&mut random);
-        let mut all = Vec::new();
+        let journal = small(&mut random, 8);
+        let mut walked = Vec::new();
         for start in journal.starts(ON, RIGHT) {
-            walk(&journal, start, 1, &mut all);
+            walk(&journal, start, &mut walked);
         }
-        assert!(all.iter().all(|&(_, persons)| persons <= 8));
-        let mut walked: Vec<Ending> = all.into_iter().map(|(ending, _)| ending).collect();
+        assert!(walked.iter().all(|ending| ending.persons <= 8));
         let mut found = journal.endings(journal.shift, ON, RIGHT);
         walked.sort();
-        walked.dedup();
+        walked.dedup_by_key(|ending| (ending.person, ending.allowance));
         found.sort();
         assert_eq!(found, walked);
     }
+}
+
+/// A chain told by its persons, and what it ends with.
+type Told = (Vec<u8>, u32);
+
+/// Every chain among five persons that begins with these.
+fn tell(journal: &Journal, persons: &mut Vec<u8>, all: &mut Vec<Told>) {
+    for person in 0..5 {
+        persons.push(person);
+        if let Some(allowance) = journal.through(persons, ON, RIGHT) {
+            all.push((persons.clone(), allowance));
+            tell(journal, persons, all);
+        }
+        persons.pop();
+    }
+}
+
+/// Of all chains to the person those that end with the most.
+fn best_told(all: &[Told], person: u8) -> Vec<Told> {
+    let mut chains: Vec<Told> =
+        all.iter().filter(|(persons, _)| persons.ends_with(&[person])).cloned().collect();
+    let most = chains.iter().map(|&(_, allowance)| allowance).max();
+    chains.retain(|&(_, allowance)| Some(allowance) == most);
+    chains
+}
+
+fn names_nobody_twice(persons: &[u8]) -> bool {
+    persons.iter().collect::<BTreeSet<&u8>>().len() == persons.len()
+}
+
+/// K7: "Among chains with the greatest allowance the check now gives one with the fewest persons". The
+/// number is that of all chains, told one by one; none of the fewest persons names anybody twice, though
+/// others that end with as much do.
+#[test]
+fn fewest_persons_of_all_chains() {
+    let mut random = Random::new(3);
+    let [mut several, mut longer, mut loops] = [0; 3];
+    for _ in 0..300 {
+        let journal = small(&mut random, 16);
+        let mut all = Vec::new();
+        tell(&journal, &mut Vec::new(), &mut all);
+        let best = journal.best_chains(ON, RIGHT);
+        for person in 0..5 {
+            let told = best_told(&all, person);
+            let fewest = told.iter().map(|(persons, _)| persons.len()).min();
+            let due = fewest.map(|n| BestChain { allowance: told[0].1, persons: n as u32 });
+            assert_eq!(best[usize::from(person)], due);
+            let (shortest, others): (Vec<&Told>, Vec<&Told>) =
+                told.iter().partition(|(persons, _)| Some(persons.len()) == fewest);
+            assert!(shortest.iter().all(|(persons, _)| names_nobody_twice(persons)));
+            several += u32::from(shortest.len() > 1);
+            longer += u32::from(others.iter().any(|(persons, _)| names_nobody_twice(persons)));
+            loops += u32::from(others.iter().any(|(persons, _)| !names_nobody_twice(persons)));
+        }
+    }
+    assert!(several > 20 && longer > 20 && loops > 20, "{several}, {longer}, {loops}");
+}
+
+/// The base's chains have 1, 2 and 3 persons. With a loan of depth 0 from 3 to 5 two persons end with 0
+/// as the three do; with E6's of depth 5 two end with 1.
+#[test]
+fn fewest_persons_of_the_base() {
+    let chain = |allowance, persons| Some(BestChain { allowance, persons });
+    let mut journal = base();
+    let best = journal.best_chains(ON, RIGHT);
+    assert_eq!((best[3], best[4], best[5]), (chain(2, 1), chain(1, 2), chain(0, 3)));
+    assert_eq!((best[0], best[9]), (None, None));
+    assert_eq!(journal.give(lend(3, 5, ON, RIGHT, 0, 0)), 0);
+    assert_eq!(journal.best_chains(ON, RIGHT)[5], chain(0, 2));
+    assert_eq!(journal.give(lend(3, 5, ON, RIGHT, 5, 0)), 0);
+    assert_eq!(journal.best_chains(ON, RIGHT)[5], chain(1, 2));
 }
 
 /// "journal and chains use only carrying loans": in shift 3 the answers are those of a journal that
@@ -445,7 +516,7 @@ fn endings_are_those_of_carrying_loans() {
     let mut random = Random::new(2);
     let mut fewer = 0;
     for _ in 0..300 {
-        let journal = small(&mut random);
+        let journal = small(&mut random, 8);
         let mut carrying = journal.clone();
         carrying.loans.retain(|loan| [0, 3, 4].contains(&loan.last));
         fewer += u32::from(carrying != journal);
@@ -456,14 +527,14 @@ fn endings_are_those_of_carrying_loans() {
     assert!(fewer > 0);
 }
 
-/// A few grants and loans among five persons, in shift 3; last shifts are 1 to 4, or none.
-fn small(random: &mut Random) -> Journal {
+/// A few grants and so many loans among five persons, in shift 3; last shifts are 1 to 4, or none.
+fn small(random: &mut Random, loans: u32) -> Journal {
     let mut journal = Journal { shift: 3, ..Journal::fresh() };
     for _ in 0..3 {
         let (person, depth) = (random.below(5), random.below(8));
         journal.grants.insert(Grant { item: ON, right: RIGHT, person, depth });
     }
-    for _ in 0..8 {
+    for _ in 0..loans {
         let (lender, borrower, depth) = (random.below(5), random.below(5), random.below(8));
         let last = random.below(5);
         journal.loans.insert(Loan { lender, item: ON, right: RIGHT, borrower, depth, last });

@@ -214,7 +214,7 @@ impl ChainImages<'_> {
         let written: [u8; 8] = (&*chain.slice()).try_into().expect("8 bytes");
         let (who, on, right) = question;
         let known = who < 64 && on < 64 && right < 8;
-        let best = if known { journal.best(on, right)[who as usize] } else { None };
+        let best = if known { journal.best_chains(on, right)[who as usize] } else { None };
         judge_chain(journal, question, best, checked, before, written);
         lent.assert_holds(self.grants, self.loans, "a check");
         chain.assert_holds(&written, "a check");

@@ -1,4 +1,4 @@
-//! Document 01 once more, with requests K1 to K3, K5 and K6 of document 02, in plain Rust over sets.
+//! Document 01 once more, with requests K1 to K3 and K5 to K7 of document 02, in plain Rust over sets.
 //! It shares no code with the engine; where the papers leave a choice, it follows the readings in
 //! docs/DECISIONS.md.
 #![allow(dead_code, unused_imports)]
@@ -11,7 +11,7 @@ mod journals;
 mod ticket_images;
 pub mod tickets;
 
-pub use chains::Ending;
+pub use chains::{BestChain, Ending};
 pub use images::{
     chain_journal, flat_journal, head_of, image_of, loan_of, loans_image, loans_in_order,
     loans_read, word_of, Cell, GrantLayout, Head, Layout, ListLayout, Place, RowLayout,

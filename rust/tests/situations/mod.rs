@@ -6,13 +6,16 @@ mod drops;
 mod picks;
 mod withdrawals;
 
-use crate::model::{Command, Journal, Journals, Loan, Numbers};
+use crate::model::{BestChain, Command, Journal, Journals, Loan, Numbers};
 use drops::{Bereft, Dropped};
 use picks::Check;
 use withdrawals::{Memory, Owed, Withdrawal};
 
 /// For each person, what the best chain ends with.
 type Best = [Option<u32>; 64];
+
+/// The same, and the fewest persons of the chains that end with it.
+type BestChains = [Option<BestChain>; 64];
 
 /// A command, the journals before it, and its numbers.
 struct Moment<'a> {
@@ -227,9 +230,10 @@ impl Situations {
     }
 
     /// Counts the answer to a question within the limits; `best` is what the model has there.
-    pub fn answer(&mut self, journals: &Journals, question: (u32, u32, u32), best: Best) {
+    pub fn answer(&mut self, journals: &Journals, question: (u32, u32, u32), best: BestChains) {
         count(&mut self.drop_answers, drops::owes(journals, question));
         let (journal, (who, on, right)) = (&journals.chains, question);
+        let best = best.map(|chain| chain.map(|chain| chain.allowance));
         let check = Check::new(journal, question, best);
         count(&mut self.picks, picks::SITUATIONS.iter().map(|(_, is_one)| is_one(&check)));
         let in_shift = |shift| journal.best_in(shift, on, right)[who as usize];
