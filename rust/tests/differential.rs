@@ -42,8 +42,9 @@ impl Counts {
         self.situations.add(&other.situations);
     }
 
-    /// Every number of a command, every depth and every length of a chain came up, and every
-    /// situation that shifts, sets of items, drops, withdrawn lenders and the loans of a check are about.
+    /// Every number of a command, every depth and every length of a chain came up, and every situation
+    /// that shifts, sets of items, drops, withdrawn lenders, the loans of a check and the choice among
+    /// its chains are about.
     fn assert_broad(&self) {
         let given = [0, 3, 4, 5, 6, 7, 8, 9, 10, 12, 13, 14];
         assert!(given.iter().all(|&n| self.numbers[n] > 0), "numbers {:?}", self.numbers);
@@ -247,7 +248,7 @@ fn short() {
 #[test]
 #[ignore = "takes minutes"]
 fn long() {
-    let counts = lists_of_every_bias(840_000, 50);
+    let counts = lists_of_every_bias(600_000, 50);
     counts.assert_broad();
     assert!(counts.commands >= 10_000_000);
 }

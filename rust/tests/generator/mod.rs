@@ -79,6 +79,10 @@ pub struct Bias {
     pub held: u32,
     /// Percent of loans to the next item.
     pub to_next: u32,
+    /// Percent of grants and loans in layers, in which all chains that go onward end alike.
+    pub layers: u32,
+    /// Percent of those loans that are not to the next layer.
+    pub astray: u32,
     /// Percent of withdraws and drops of one who has lent, and of allows that give back what was
     /// withdrawn or dropped last.
     pub lenders: u32,
@@ -100,12 +104,14 @@ const EVEN: Bias = Bias {
     on_key: 0,
     held: 30,
     to_next: 0,
+    layers: 0,
+    astray: 0,
     lenders: 0,
     wild: 1,
     length: 2_000,
 };
 
-pub const BIASES: [Bias; 15] = [
+pub const BIASES: [Bias; 17] = [
     EVEN,
     Bias { name: "one key", items: 10, shares: [5, 1, 20, 1, 8, 4, 50, 16, 4], on_key: 90, ..EVEN },
     Bias {
@@ -232,10 +238,42 @@ pub const BIASES: [Bias; 15] = [
         length: 1_000,
         ..EVEN
     },
+    Bias {
+        name: "long routes",
+        items: 16,
+        rights: 2,
+        shares: [0, 0, 9, 0, 1, 1, 80, 7, 2],
+        dated: 8,
+        on_key: 97,
+        layers: 97,
+        astray: 7,
+        length: 100,
+        ..EVEN
+    },
+    Bias {
+        name: "many routes and loops",
+        items: 8,
+        rights: 2,
+        shares: [0, 0, 7, 0, 3, 3, 62, 20, 5],
+        dated: 25,
+        on_key: 97,
+        layers: 90,
+        astray: 55,
+        length: 125,
+        ..EVEN
+    },
 ];
 
 /// Numbers at and past the limits, and those that look small where a field is cut.
 const WILD: [u32; 14] = [0, 7, 8, 62, 63, 64, 65, 127, 128, 255, 256, 1 << 24, 1 << 31, u32::MAX];
+
+/// Persons alike in their number modulo this are a layer.
+const LAYERS: u32 = 8;
+
+/// What a chain from the first layer onward leaves at the person, whatever layers it passes over.
+fn layer_depth(person: u32) -> u32 {
+    LAYERS - 1 - person % LAYERS
+}
 
 /// The bit of an item in a set; none beyond the limit.
 fn bit(item: u32) -> u64 {
@@ -281,16 +319,19 @@ impl Generator {
     pub fn of_kind(&mut self, kind: usize, journal: &Journal) -> Command {
         let (on, right) = self.key();
         let (to, depth) = (self.living(journal), self.depth());
+        let in_layers = self.bias.layers > 0 && self.random.percent(self.bias.layers);
         match kind {
             0 => Command::Create { by: self.living(journal), on: self.item() },
             1 => {
                 let on = self.item();
                 Command::Delete { by: self.editor(journal, on), on }
             }
+            2 if in_layers => self.allow_in_layers(journal, on, right),
             2 => self.allow(journal, Grant { item: on, right, person: to, depth }),
             3 => self.allow_set(journal, on, right),
             4 => self.withdraw(journal),
             5 => self.drop(journal),
+            6 if in_layers => self.lend_in_layers(journal, on, right),
             6 => self.lend(journal, on, right),
             7 => self.recall(journal),
             _ => Command::Shift { by: self.editor(journal, 0), now: self.now(journal) },
@@ -439,6 +480,23 @@ impl Generator {
         let next = self.random.percent(self.bias.to_next);
         let to = if next { (by % 64 + 1) % self.bias.items } else { self.living(journal) };
         lend(by, to, on, right, self.depth(), self.last(journal))
+    }
+
+    /// A grant to a person, mostly one of the first layer.
+    fn allow_in_layers(&mut self, journal: &Journal, on: u32, right: u32) -> Command {
+        let person = self.random.below(self.bias.items);
+        let to = if self.random.percent(90) { person / LAYERS * LAYERS } else { person };
+        Command::Allow { by: self.editor(journal, on), to, on, right, depth: layer_depth(to) }
+    }
+
+    /// A loan to the next layer, at times to a later one or back.
+    fn lend_in_layers(&mut self, journal: &Journal, on: u32, right: u32) -> Command {
+        let by = self.random.below(self.bias.items);
+        let astray = self.random.percent(self.bias.astray);
+        let onward = if astray { self.random.pick(&[2, 2, 3, 5, 6, 7, 8]) } else { 1 };
+        let column = LAYERS * self.random.below(self.bias.items / LAYERS);
+        let to = (by + onward) % LAYERS + column;
+        lend(by, to, on, right, layer_depth(to), self.last(journal))
     }
 
     /// The last shift of a loan, if it has one: near the present shift, at times anything.

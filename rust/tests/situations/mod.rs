@@ -1,14 +1,17 @@
 //! How often a run came upon what shifts are about, loans for one shift, past loans and a shift that
-//! goes back; and upon what allowsets, drops, withdrawn lenders and the loans of a check are about.
+//! goes back; and upon what allowsets, drops, withdrawn lenders, the loans of a check and the choice among
+//! its chains are about.
 
 mod allow_sets;
 mod drops;
 mod picks;
+mod routes;
 mod withdrawals;
 
 use crate::model::{BestChain, Command, Journal, Journals, Loan, Numbers};
 use drops::{Bereft, Dropped};
 use picks::Check;
+use routes::Routes;
 use withdrawals::{Memory, Owed, Withdrawal};
 
 /// For each person, what the best chain ends with.
@@ -153,6 +156,7 @@ pub struct Situations {
     loans_end: [u64; withdrawals::ENDS.len()],
     loans_stay: [u64; withdrawals::OTHERS.len()],
     withdrawn: [u64; withdrawals::WITHDRAWS.len()],
+    routes: [u64; routes::SITUATIONS.len()],
     freed: bool,
     /// The last accepted allowset.
     allow_set: Option<Command>,
@@ -233,11 +237,16 @@ impl Situations {
     pub fn answer(&mut self, journals: &Journals, question: (u32, u32, u32), best: BestChains) {
         count(&mut self.drop_answers, drops::owes(journals, question));
         let (journal, (who, on, right)) = (&journals.chains, question);
-        let best = best.map(|chain| chain.map(|chain| chain.allowance));
-        let check = Check::new(journal, question, best);
+        let allowances = best.map(|chain| chain.map(|chain| chain.allowance));
+        let check = Check::new(journal, question, allowances);
         count(&mut self.picks, picks::SITUATIONS.iter().map(|(_, is_one)| is_one(&check)));
-        let in_shift = |shift| journal.best_in(shift, on, right)[who as usize];
-        let (now, next, all) = (best[who as usize], in_shift(journal.shift + 1), in_shift(0));
+        let in_shift = |shift| journal.best_chains_in(shift, on, right);
+        let (next, all) = (in_shift(journal.shift + 1), in_shift(0));
+        if let Some(routes) = Routes::of(journal, question, [&best, &next, &all]) {
+            count(&mut self.routes, routes::SITUATIONS.iter().map(|(_, is_one)| is_one(&routes)));
+        }
+        let of_person = |best: BestChains| best[who as usize].map(|chain| chain.allowance);
+        let [now, next, all] = [best, next, all].map(of_person);
         let owes = [
             now.is_some() && next.is_none(),
             now.is_none() && all.is_some(),
@@ -251,7 +260,7 @@ impl Situations {
         let drops = self.drops.iter_mut().chain(&mut self.withdraws).chain(&mut self.drop_answers);
         let into = commands.chain(&mut self.allow_sets).chain(drops).chain(&mut self.picks);
         let loans = self.loans_end.iter_mut().chain(&mut self.loans_stay);
-        let into = into.chain(loans).chain(&mut self.withdrawn);
+        let into = into.chain(loans).chain(&mut self.withdrawn).chain(&mut self.routes);
         into.zip(other.counts()).for_each(|(count, more)| *count += more);
     }
 
@@ -266,6 +275,7 @@ impl Situations {
             .chain(&self.loans_end)
             .chain(&self.loans_stay)
             .chain(&self.withdrawn)
+            .chain(&self.routes)
     }
 
     /// Each situation by its name, and how often it came up.
@@ -278,6 +288,7 @@ impl Situations {
         let loans = withdrawals::ENDS.iter().chain(&withdrawals::OTHERS).map(name);
         let named = commands.chain(allow_sets).chain(drops).chain(picks);
         let named = named.chain(loans).chain(withdrawals::WITHDRAWS);
+        let named = named.chain(routes::SITUATIONS.iter().map(name));
         named.zip(self.counts().copied())
     }
 
