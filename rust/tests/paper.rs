@@ -11,8 +11,8 @@ use model::commands::{
     allow, allow_set, create, delete, drop, lend, recall, shift, withdraw, BASE,
 };
 use model::{
-    head_of, loan_of, loans_image, loans_in_order, word_of, BestChain, Command, Ending, Grant,
-    Head, Journal, Journals, Loan, Numbers,
+    head_of, loan_of, loans_image, loans_in_order, names_nobody_twice, word_of, BestChain, Command,
+    Ending, Grant, Head, Journal, Journals, Loan, Numbers,
 };
 
 const ON: u32 = 9;
@@ -460,10 +460,6 @@ fn best_told(all: &[Told], person: u8) -> Vec<Told> {
     let most = chains.iter().map(|&(_, allowance)| allowance).max();
     chains.retain(|&(_, allowance)| Some(allowance) == most);
     chains
-}
-
-fn names_nobody_twice(persons: &[u8]) -> bool {
-    persons.iter().collect::<BTreeSet<&u8>>().len() == persons.len()
 }
 
 /// K7: "Among chains with the greatest allowance the check now gives one with the fewest persons". The

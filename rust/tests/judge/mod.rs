@@ -1,11 +1,9 @@
 //! What the model expects of an engine's answer to a check.
 #![allow(dead_code)]
 
-use std::collections::BTreeSet;
-
 use rights::lent::chains::Checked;
 
-use crate::model::{BestChain, Journal};
+use crate::model::{names_nobody_twice, BestChain, Journal};
 
 /// 3 for a question beyond the limits, else 0.
 pub fn question_number((who, on, right): (u32, u32, u32)) -> u32 {
@@ -55,8 +53,7 @@ fn judge_persons(journal: &Journal, question: (u32, u32, u32), checked: Checked,
     let (persons, rest) = chain.split_at(count);
     assert!(rest.iter().all(|&byte| byte == 255), "{chain:?} after its end for {question:?}");
     assert_eq!(persons.last().copied().map(u32::from), Some(who), "end of {chain:?}");
-    let named: BTreeSet<&u8> = persons.iter().collect();
-    assert_eq!(named.len(), count, "somebody twice in {chain:?} for {question:?}");
+    assert!(names_nobody_twice(persons), "somebody twice in {chain:?} for {question:?}");
     let allowance = journal.through(persons, on, right);
     assert_eq!(allowance, Some(checked.depth), "{chain:?} for {question:?}");
 }

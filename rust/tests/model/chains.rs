@@ -1,6 +1,8 @@
 //! Chains: what each ends with and how many persons it has, by following every loan from every ending
 //! found.
 
+use std::collections::BTreeSet;
+
 use super::journal::{Grant, Journal, Loan};
 
 /// A person, the allowance that some chain to that person ends with, and its number of persons.
@@ -103,6 +105,11 @@ impl Journal {
         }
         Some(allowance)
     }
+}
+
+/// Whether a chain of these persons has no loop.
+pub fn names_nobody_twice<P: Ord>(persons: &[P]) -> bool {
+    persons.iter().collect::<BTreeSet<&P>>().len() == persons.len()
 }
 
 fn mark<'a>(seen: &'a mut [[bool; 8]; 64], ending: &Ending) -> &'a mut bool {

@@ -11,7 +11,7 @@ mod journals;
 mod ticket_images;
 pub mod tickets;
 
-pub use chains::{BestChain, Ending};
+pub use chains::{names_nobody_twice, BestChain, Ending};
 pub use images::{
     chain_journal, flat_journal, head_of, image_of, loan_of, loans_image, loans_in_order,
     loans_read, word_of, Cell, GrantLayout, Head, Layout, ListLayout, Place, RowLayout,

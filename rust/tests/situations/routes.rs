@@ -1,10 +1,8 @@
 //! What the choice among chains is about: the best chains of a check, those of the fewest persons, longer
 //! ones and ones with a loop beside them, one's own grant, and last shifts that end the shorter way.
 
-use std::collections::BTreeSet;
-
 use super::{of_key, BestChains};
-use crate::model::{BestChain, Journal};
+use crate::model::{names_nobody_twice, BestChain, Journal};
 
 /// What stands on an item and right, and the best chains to a person there.
 struct Ways<'a> {
@@ -62,10 +60,6 @@ impl<'a> Ways<'a> {
 
 fn raise(depth: &mut Option<u32>, to: u32) {
     *depth = (*depth).max(Some(to));
-}
-
-fn names_nobody_twice(persons: &[u32]) -> bool {
-    persons.iter().collect::<BTreeSet<&u32>>().len() == persons.len()
 }
 
 /// A check that says yes, and its best chains.

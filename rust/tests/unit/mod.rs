@@ -78,6 +78,17 @@ impl Unit {
         assert_eq!(self.check(question, 8), (checked, chain), "{question:?}");
     }
 
+    /// The persons of a yes with that depth, whichever chain it is. "Of several such, the choice is
+    /// still open."
+    #[track_caller]
+    pub fn persons(&self, question: Question, depth: u32) -> Vec<u8> {
+        let (checked, chain) = self.check(question, 8);
+        let persons = chain[..checked.persons as usize].to_vec();
+        assert!(!persons.is_empty(), "{checked:?} for {question:?}");
+        self.yes(question, depth, &persons);
+        persons
+    }
+
     /// "On no, all 8 bytes are 255, depth and number 0."
     #[track_caller]
     pub fn no(&self, question: Question) {
