@@ -4,11 +4,16 @@
 //! choice is still open": there any of them is taken.
 
 mod engine;
+mod judge;
 mod model;
 mod unit;
 
+use std::panic::catch_unwind;
+
+use judge::judge_chain;
 use model::commands::{allow, create, delete, drop, lend, recall, shift, withdraw};
-use model::Command;
+use model::{BestChain, Command, Journal};
+use rights::lent::chains::Checked;
 use rights::{Chains, Depth, Item, Right};
 use unit::Unit;
 
@@ -461,4 +466,36 @@ fn loans_of_several_depths() {
     by(&unit, 5, 1, &[3, 5]);
     unit.give(0, &[unloan(3, 5, 1)]);
     by(&unit, 5, 1, &[3, 4, 5]);
+}
+
+/// Whether the judge of random lists takes such an answer about 5 where the best chains end with 0 and
+/// have so many persons.
+fn judge_takes(journal: &Journal, fewest: u32, persons: u32, chain: &[u8]) -> bool {
+    let mut buffer = [255; 8];
+    buffer[..chain.len()].copy_from_slice(chain);
+    let best = Some(BestChain { allowance: 0, persons: fewest });
+    let checked = Checked { number: 0, depth: 0, persons };
+    let judge = || judge_chain(journal, (5, ON, RIGHT), best, checked, [7; 8], buffer);
+    catch_unwind(judge).is_ok()
+}
+
+/// The judge takes any chain of the fewest persons, and none that is longer, is cut, is to another, goes on
+/// after its end or names somebody twice: 3,5 and 6,5 end with 0, and so do 3,4,5 and 3,4,3,5, and 3,8.
+#[test]
+fn judge_of_random_lists() {
+    let items = (3..10).map(|on| create(0, on));
+    let made = [grant(3, 7), grant(6, 7), loan(3, 4, 7), loan(4, 3, 7)];
+    let at_0 = [loan(3, 5, 0), loan(4, 5, 0), loan(6, 5, 0), loan(3, 8, 0)];
+    let mut journal = Journal::fresh();
+    for command in items.chain(made).chain(at_0) {
+        assert_eq!(journal.give(command), 0, "{command:?}");
+    }
+    let takes = |fewest, persons, chain: &[u8]| judge_takes(&journal, fewest, persons, chain);
+    assert!(takes(2, 2, &[3, 5]) && takes(2, 2, &[6, 5]));
+    assert!(!takes(2, 3, &[3, 4, 5]) && !takes(2, 4, &[3, 4, 3, 5]));
+    assert!(!takes(2, 2, &[3, 4, 5]) && !takes(2, 3, &[3, 5]));
+    assert!(!takes(2, 2, &[3, 8]) && !takes(2, 2, &[3, 5, 5]));
+    assert!(!takes(2, 2, &[4, 5]) && !takes(2, 1, &[5]) && !takes(2, 0, &[]));
+    assert!(takes(3, 3, &[3, 4, 5]) && !takes(3, 2, &[3, 5]));
+    assert!(!takes(4, 4, &[3, 4, 3, 5]));
 }
