@@ -33,7 +33,7 @@ impl Journal {
         chains.map(|chain| chain.map(|chain| chain.allowance))
     }
 
-    /// For each person the best chains: "Among chains with the greatest allowance the check now gives
+    /// For each person the best chains. K7: "Among chains with the greatest allowance the check now gives
     /// one with the fewest persons".
     pub fn best_chains(&self, item: u32, right: u32) -> [Option<BestChain>; 64] {
         self.best_chains_in(self.shift, item, right)

@@ -119,7 +119,7 @@ impl Routes {
 /// A situation: what it is called, and which check is one.
 type Situation = (&'static str, fn(&Routes) -> bool);
 
-pub const SITUATIONS: [Situation; 18] = [
+pub const SITUATIONS: [Situation; 17] = [
     ("several chains of the fewest persons", |r| r.several),
     ("several chains of the fewest persons beside a longer one", |r| r.several && r.longer),
     ("several chains of eight persons", |r| r.several && r.persons == 8),
@@ -133,7 +133,6 @@ pub const SITUATIONS: [Situation; 18] = [
     ("five persons beside a longer chain", |r| r.beside_longer(5)),
     ("six persons beside a longer chain", |r| r.beside_longer(6)),
     ("seven persons beside a longer chain", |r| r.beside_longer(7)),
-    ("eight persons", |r| r.persons == 8),
     ("own grant of less beside two persons", |r| r.own.is_some() && r.persons == 2),
     ("own grant of less beside three persons or more", |r| r.own.is_some() && r.persons > 2),
     ("more persons for a past loan", |r| r.as_much(r.all).is_some_and(|n| n < r.persons)),

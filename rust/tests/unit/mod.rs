@@ -1,5 +1,5 @@
 //! A chain unit over slices, given fixed commands and asked fixed questions. What stands in
-//! quotation marks is the text of document 01.
+//! quotation marks is the text of document 01, or of the request that is named.
 #![allow(dead_code)]
 
 use rights::lent;
@@ -78,8 +78,8 @@ impl Unit {
         assert_eq!(self.check(question, 8), (checked, chain), "{question:?}");
     }
 
-    /// The persons of a yes with that depth, whichever chain it is. "Of several such, the choice is
-    /// still open."
+    /// The persons of a yes with that depth, whichever chain it is. K7: "Of several such, the choice
+    /// is still open."
     #[track_caller]
     pub fn persons(&self, question: Question, depth: u32) -> Vec<u8> {
         let (checked, chain) = self.check(question, 8);
