@@ -2,7 +2,7 @@
 use mathlib.Core.Path.{_≡_, refl, sym, ap, _∙_}
 use mathlib.Core.Bool.{Bool, true, false, _&&_, cond, false≢true}
 use mathlib.Core.List.{List}
-use Prim.Native.Nat.{ℕ, _+_, _-_, _*_}
+use Prim.Native.Nat.{ℕ, _+_, _*_}
 use borrow.Author.Tests.{ne-eqb, eqb-true}
 use lib.ListN.{length}
 use lib.Dec.{eqb}
@@ -17,7 +17,7 @@ use Rattle.layouts.specs.Admission.{checkAdmission}
 use Rattle.layouts.specs.Layouts.{grantCells}
 use Rattle.delegation.specs.Loans.{loanWords}
 use Rattle.delegation.specs.Images.{Images}
-use Rattle.delegation.specs.Search.{grantsOf, foundOf, chainOf, heightOf, lengthOf, bestOf}
+use Rattle.delegation.specs.Search.{grantsOf, foundOf, chainOf, heightOf, bestOf}
 use Rattle.delegation.specs.Picking.{picked}
 use Rattle.delegation.specs.ChainUnit.{chainInOrder, chainSized, chainGuarded, chainCheckNumber, chainFound, ChainChecks}
 use Rattle.bits.proofs.Sets.{fst, snd}
@@ -62,13 +62,11 @@ chain-check-known s buffer p o r = check-guard-known (chainSized s (eqb (length 
 -- a no has no depth and no persons
 best-none : (bytes ls : List ℕ) (who : ℕ) → bestOf bytes ls who .yes ≡ false → bestOf bytes ls who ≡ nothing
 unfolding bestOf
-best-none bytes ls who = go (eqb (heightOf bytes ls who) 0)
+best-none bytes ls who = go (eqb (heightOf bytes ls who) 0) (record { yes = true; depth = _; persons = _ }) refl
   where
-    go : (b : Bool) → cond b nothing
-        (record { yes = true; depth = heightOf bytes ls who - 1; persons = lengthOf bytes ls who + 1 }) .yes ≡ false
-        → cond b nothing (record { yes = true; depth = heightOf bytes ls who - 1; persons = lengthOf bytes ls who + 1 }) ≡ nothing
-    go true e = refl
-    go false e = absurd (false≢true (sym e))
+    go : (b : Bool) (f : Found) → f .yes ≡ true → cond b nothing f .yes ≡ false → cond b nothing f ≡ nothing
+    go true f y e = refl
+    go false f y e = absurd (false≢true (sym e ∙ y))
 
 found-none : (gs t : List ℕ) (key who : ℕ) → foundOf gs t key who .yes ≡ false → foundOf gs t key who ≡ nothing
 unfolding foundOf

@@ -15,7 +15,7 @@ use lib.Count.{leading-length, leading-top, leading-of-zero}
 use borrow.Author.Tests.{eqb-true, eq-eqb, ne-eqb, le-leb, leb-true}
 use lib.ListN.{length, getD, drop, replicate, length-append, length-replicate}
 use lib.Seq.{take-at, drop-at, getD-take, getD-drop}
-use Rattle.bits.specs.Sets.{any, most, firstAt, tabulate}
+use Rattle.bits.specs.Sets.{most, firstAt, tabulate}
 use Rattle.bits.specs.Bits.{bit}
 use Rattle.model.specs.Answers.{Found, nothing}
 use Rattle.model.specs.Journal.{grant}
