@@ -136,6 +136,10 @@ journal-short j v {o} {r} c =
     chain-length (λ p e h. let k : ranged (grant p o r e) ≡ true = stands-ranged j (v .inv) (grant p o r e) h in
     search (fst, snd, leb-true)) c
 
+-- where nothing is found there is no yes
+no-yes : {f : Found} → f ≡ nothing → f .yes ≡ true → ⊥
+no-yes e y = false≢true (ap (λ (f : Found). f .yes) (sym e) ∙ y)
+
 -- a check of the journal's images, beyond the limits and within them
 module _ (j : Journal) (v : Kept j) (buffer : List ℕ) (l : length buffer ≡ 8) (p o r : ℕ) where
   number-of : chainCheckNumber (imagesOf j) buffer p o r ≡ asked p o r
@@ -160,7 +164,7 @@ module _ (j : Journal) (v : Kept j) (buffer : List ℕ) (l : length buffer ≡ 8
       by-cases (ℕ-discrete (asked p o r) 0) (λ e. meets-access _ _ _ _ _ p o r (meets-of e) d)
       (λ ne. let b = beyond-of ne in (
         λ t. let e = access-iff _ _ _ _ _ p o r d .0 t in absurd (b .2 (e .0) (e .1) (e .3)),
-        λ q. absurd (false≢true (ap (λ (f : Found). f .yes) (sym (b .0)) ∙ q .0)),
+        λ q. absurd (no-yes (b .0) (q .0)),
       ))
 
   persons-of : (n : ℕ) → FewestPersons (λ ps a. JournalChain j o r ps p a) n
@@ -169,7 +173,7 @@ module _ (j : Journal) (v : Kept j) (buffer : List ℕ) (l : length buffer ≡ 8
       by-cases (ℕ-discrete (asked p o r) 0) (λ e. meets-persons (meets-of e) n)
       (λ ne. let b = beyond-of ne in (
         λ t. absurd (b .2 (t .0 .persons) (t .0 .depth) (t .0 .chain)),
-        λ q. absurd (false≢true (ap (λ (f : Found). f .yes) (sym (b .0)) ∙ q .0)),
+        λ q. absurd (no-yes (b .0) (q .0)),
       ))
 
 chain-agrees : (j : Journal) → Kept j → ChainAgrees j (imagesOf j)
@@ -187,7 +191,7 @@ pub chain-nobody-twice : (j : Journal) (s : Images) → ChainAgrees j s → (buf
     → chainFound s buffer p o r .yes ≡ true → NobodyTwice (take (chainFound s buffer p o r .persons) (chainBuffer s buffer p o r))
 chain-nobody-twice j s a buffer l p o r y =
     by-cases (ℕ-discrete (asked p o r) 0) (λ e. nobody-twice (given (a .meets buffer l p o r e) y))
-    (λ ne. absurd (false≢true (ap (λ (f : Found). f .yes) (sym (a .beyond buffer l p o r ne .0)) ∙ y)))
+    (λ ne. absurd (no-yes (a .beyond buffer l p o r ne .0) y))
 
 -- ---- the units of two journals
 abbrev pub unitsOf : Journal → Journal → Units
