@@ -67,7 +67,7 @@ extern "C" {
 #endif
 
 /* Which engine this header is of: 10000 * major + 100 * minor + patch, and the date of the images' layout as digits. */
-#define RIGHTS_VERSION 10800
+#define RIGHTS_VERSION 10900
 #define RIGHTS_LAYOUT_DATE 20261117
 
 /* Enough stack below the caller's frame: for any call but one on a ticket image, and for any call. */
@@ -301,7 +301,7 @@ RIGHTS_NODISCARD uint32_t rights_chains_drop(uint8_t *grants, size_t bytes, uint
 /*
  * Lends the right on item on from by to to at that depth, also where by holds nothing yet. With a last shift the loan carries up to and
  * in that shift; with last 0 it is open-ended. The same loan with another last is another loan. It stands until it is recalled, an item
- * that it names is deleted, or by's last grant there is withdrawn or dropped. 0 to 5, 9, 13 or 10.
+ * that it names is deleted, by's last grant there is withdrawn or dropped, or it is past and swept. 0 to 5, 9, 13 or 10.
  */
 RIGHTS_NODISCARD uint32_t rights_chains_lend(uint8_t *grants, size_t bytes, uint32_t *loans, size_t words, uint32_t by, uint32_t to,
     uint32_t on, uint32_t right, uint32_t depth, uint32_t last) RIGHTS_NONNULL;
@@ -311,11 +311,19 @@ RIGHTS_NODISCARD uint32_t rights_chains_recall(uint8_t *grants, size_t bytes, ui
     uint32_t to, uint32_t on, uint32_t right, uint32_t depth, uint32_t last) RIGHTS_NONNULL;
 
 /*
- * Sets the present shift; needs an edit grant on item 0. A loan that is past its last shift stands and counts as any other does, but
- * no chain uses it. The shift may start again lower once no loan with a last shift stands. 0 to 4, 8 or 12.
+ * Sets the present shift; needs an edit grant on item 0. A loan that is past its last shift stands and counts as any other does until
+ * it is swept, but no chain uses it. The shift may start again lower once no loan with a last shift stands. 0 to 4, 8 or 12.
  */
 RIGHTS_NODISCARD uint32_t rights_chains_shift(uint8_t *grants, size_t bytes, uint32_t *loans, size_t words, uint32_t by,
     uint32_t shift) RIGHTS_NONNULL;
+
+/*
+ * Ends every loan that is past its last shift, and sets *swept to how many there were, 0 where there was none; any living item may. No
+ * check changes its yes or no, its depth or its number of persons, now or at a later shift. Loans in their last shift, with a later one
+ * or open-ended stay. 0 to 4.
+ */
+RIGHTS_NODISCARD uint32_t rights_chains_sweep(uint8_t *grants, size_t bytes, uint32_t *loans, size_t words, uint32_t by,
+    uint32_t *swept) RIGHTS_NONNULL;
 
 /*
  * Whether a chain of grants and carrying loans leads to who. `persons_max` is RIGHTS_CHAIN_PERSONS. 0 to 3.

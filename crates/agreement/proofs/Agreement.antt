@@ -37,7 +37,7 @@ use Rattle.delegation.proofs.Loans.{word-fields, word-in, sorted, any-sorted, u
 use Rattle.model.proofs.Steps.{inv-step, kept-fresh, kept-step, kept-run, flat-lends, alike-apply}
 use Rattle.layouts.proofs.Steps.{step-of}
 use Rattle.delegation.proofs.Steps.{grantsOf, headerFor, imagesOf, few-sorted}
-use Rattle.delegation.proofs.ChainUnit.{guard-chain, answer-chain, step-chain, fresh-chain, stands-ranged, standing-of}
+use Rattle.delegation.proofs.ChainUnit.{guard-chain, answer-chain, count-chain, step-chain, fresh-chain, stands-ranged, standing-of}
 
 -- ---- lists and rows
 flat-agrees : (L : Layout) (W : Laws L) (j : Journal) → Inv j → FlatAgrees L j (imageOf L j)
@@ -208,6 +208,7 @@ answers-of j k v w c = record {
   list = λ h. answer-of lists lists-laws k w c (flat-lends c h);
   row = λ h. answer-of rows rows-laws k w c (flat-lends c h);
   chain = answer-chain j v c;
+  count = count-chain j v c;
 }
 
 called-of : (j k : Journal) → Kept j → Inv k → (c : Command) → called (unitsOf j k) c ≡ unitsOf (step j c) (flatStep k c)
@@ -273,6 +274,7 @@ alike-answers {c = c} a g = record {
   list = λ h. g .list h ∙ sym (alike-answered a c h);
   row = λ h. g .row h ∙ sym (alike-answered a c h);
   chain = g .chain;
+  count = g .count;
 }
 
 -- a list without drop: its first command is none, and none is in the rest

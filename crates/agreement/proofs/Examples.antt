@@ -10,23 +10,23 @@ use lib.Dec.{eqb, leb}
 use Rattle.model.specs.declared.Command.{Command}
 use Rattle.model.specs.declared.Command.the-variants.{Lend}
 use Rattle.model.specs.Commands.{argumentsOf}
-use Rattle.bits.specs.Sets.{any, all, keep, add, tabulate}
+use Rattle.bits.specs.Sets.{any, all, keep, count, add, tabulate}
 use Rattle.bits.specs.Bits.{bit, members}
 use Rattle.model.specs.Answers.{Found, asked, table, flat}
 use Rattle.model.specs.Journal.{step, run, Loan, Journal, grant, sameGrant, sameLoan, carries, fresh, lowest}
 use Rattle.layouts.specs.Layouts.{lists, rows}
 use Rattle.model.specs.Chain.{granted, lent, Meets, JournalChain}
 use Rattle.agreement.specs.Agreement.{Units, Agrees, Answers, Follows, called, freshUnits, flatStep, fed}
-use Rattle.agreement.specs.Examples.{Route, route, start, extends, onward, extended, serves, routes, routesTo, Question, asks, checks, Said, number, passed, no, flatYes, yes, highest, shortest, best, said, flatSaid, Example, base, lentFor2, threeDepths, depth7, eightPersons, examples, outcome, flatOutcome, calls, saidOf, chainSaid, chainOutcome, unitSaid, listOutcome, rowOutcome}
+use Rattle.agreement.specs.Examples.{Route, route, start, extends, onward, extended, serves, routes, routesTo, Question, asks, checks, Said, number, swept, passed, no, flatYes, yes, highest, shortest, best, told, said, flatSaid, Example, base, lentFor2, threeDepths, depth7, eightPersons, examples, outcome, flatOutcome, calls, saidOf, chainSaid, chainOutcome, unitSaid, listOutcome, rowOutcome}
 use Rattle.bits.proofs.Sets.{all-true, all-mono, all-keep, all-in, fst, snd, both, or-left, or-right, by-cases, either, found, any-same, any-keep, any-map, eqb-self}
 use Rattle.model.proofs.Invariant.{same-loan, same-grant, loan-self, grant-self}
 use Rattle.model.proofs.Chain.{given-length}
 use Rattle.model.proofs.Steps.{kept-run, kept-fresh}
 use Rattle.agreement.proofs.Agreement.{agreement, journal-short}
 
--- E1 to E12, and the rows of the shift, of allowset and of drop
+-- E1 to E12, and the rows of document 02's requests
 pub examples-hold : map outcome examples ≡ map (λ (e : Example). e .expected) examples
-unfolding fresh base lentFor2 threeDepths depth7 eightPersons carries examples any all keep add tabulate members bit lowest extended routes routesTo highest shortest best
+unfolding fresh base lentFor2 threeDepths depth7 eightPersons carries examples any all keep count add tabulate members bit lowest extended routes routesTo highest shortest best
 examples-hold = refl
 
 -- a lend whose last shift is past is answered 13, with 1,024 loans standing or not: 13 comes before 10
@@ -243,6 +243,7 @@ single (ps ∷ qs ∷ rest) = false
 
 abbrev decided : Said → Bool
 decided (number n) = true
+decided (swept n k) = true
 decided passed = true
 decided no = true
 decided flatYes = true
@@ -326,7 +327,7 @@ settled e = decided (outcome e) && within (e .question)
 
 chain-says : (cs : List Command) (q : Question) → decided (said (run fresh cs) q) ≡ true → within q ≡ true
     → chainSaid (calls freshUnits cs) q ≡ said (run fresh cs) q
-chain-says cs (asks c) d w = ap number (next-after cs c .chain)
+chain-says cs (asks c) d w = ap₂ (told c) (next-after cs c .chain) (next-after cs c .count)
 chain-says cs (checks p) d w =
     let j = run fresh cs in
     let m = after-all cs .chain .meets (replicate 8 0) refl p 9 1 (eqb-true (asked p 9 1) 0 w) in
@@ -354,7 +355,7 @@ same-outcomes f g q (x ∷ es) h e =
     ap₂ (λ (y : Said) (ys : List Said). y ∷ ys) (e x (fst (q x) (all q es) h)) (same-outcomes f g q es (snd (q x) (all q es) h) e)
 
 all-settled : all settled examples ≡ true
-unfolding fresh base lentFor2 threeDepths depth7 eightPersons carries examples any all keep add tabulate members bit lowest extended routes routesTo highest shortest best
+unfolding fresh base lentFor2 threeDepths depth7 eightPersons carries examples any all keep count add tabulate members bit lowest extended routes routesTo highest shortest best
 all-settled = refl
 
 -- E1 to E12, of the chain unit
@@ -377,7 +378,7 @@ flat-says cs (checks p) =
     (ap (λ b. cond b flatYes no) (a .list .yes p 9 1), ap (λ b. cond b flatYes no) (a .row .yes p 9 1))
 
 flat-expected : map flatOutcome examples ≡ map (λ (e : Example). e .flat) examples
-unfolding fresh base lentFor2 threeDepths depth7 eightPersons carries examples any all keep add tabulate members bit lowest
+unfolding fresh base lentFor2 threeDepths depth7 eightPersons carries examples any all keep count add tabulate members bit lowest
 flat-expected = refl
 
 same-flat : (f : Example → Said) → ((e : Example) → f e ≡ flatOutcome e) → map f examples ≡ map (λ (e : Example). e .flat) examples

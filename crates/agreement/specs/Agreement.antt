@@ -8,8 +8,8 @@ use lib.ListN.{length}
 use Rattle.bits.specs.Sets.{any}
 use Rattle.model.specs.declared.Command.{Command}
 use Rattle.model.specs.Answers.{flat, asked, nothing}
-use Rattle.layouts.specs.Machine.{answerOf, stepOf}
-use Rattle.model.specs.Journal.{Journal, answered, fresh, step, hasGrant, isDrop}
+use Rattle.layouts.specs.Machine.{answerOf, countedOf, stepOf}
+use Rattle.model.specs.Journal.{Journal, answered, counted, fresh, step, hasGrant, isDrop}
 use Rattle.layouts.specs.Layouts.{Layout, lists, rows, flatUnit, checkNumber, checkYes, checkLeft, freshImage}
 use Rattle.model.specs.Chain.{Meets, FewestPersons, JournalChain, JournalAccess}
 use Rattle.delegation.specs.Images.{Images}
@@ -56,11 +56,12 @@ pub record Agrees (j k : Journal) (u : Units) : Type 0 where
   pub row : FlatAgrees rows k (u .rows)
   pub chain : ChainAgrees j (u .chains)
 
--- each unit gives its journal's number to a command that it has
+-- each unit gives its journal's number to a command that it has, and the chain unit its journal's count
 pub record Answers (j k : Journal) (u : Units) (c : Command) : Type 0 where
   pub list : flat c ≡ true → answerOf (flatUnit lists) (u .lists) c ≡ answered k c
   pub row : flat c ≡ true → answerOf (flatUnit rows) (u .rows) c ≡ answered k c
   pub chain : answerOf chainUnit (u .chains) c ≡ answered j c
+  pub count : countedOf chainUnit (u .chains) c ≡ counted j c
 
 -- 'The same commands go to them and to the journal, in the same order; a unit that lacks a command isn't called for it. Each call
 -- gets the images that the unit's last call left'

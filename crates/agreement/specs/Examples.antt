@@ -1,16 +1,17 @@
 -- Document 01's handover examples E1 to E12, as one table over the journal, and document 02's shifts, allowset, drop, what becomes of
--- loans and the fewest persons in rows of their own.
+-- loans, the fewest persons and sweep in rows of their own.
 use mathlib.Core.Bool.{Bool, _&&_, cond}
 use mathlib.Core.List.{List, [], _∷_, _++_, map}
 use Prim.Native.Nat.{ℕ, zero, suc, _-_, min, max}
 use lib.ListN.{length, take, replicate}
 use lib.Dec.{eqb, leb}
 use Rattle.model.specs.declared.Command.{Command}
-use Rattle.model.specs.declared.Command.the-variants.{Create, Delete, Allow, Withdraw, Lend, Recall, Shift, AllowSet, Drop}
+use Rattle.model.specs.declared.Command.the-variants.{Create, Delete, Allow, Withdraw, Lend, Recall, Shift, AllowSet, Drop, Sweep}
 use Rattle.bits.specs.Sets.{all, keep}
+use Rattle.model.specs.Commands.{isSweep}
 use Rattle.model.specs.Answers.{Found, flat}
-use Rattle.layouts.specs.Machine.{answerOf}
-use Rattle.model.specs.Journal.{Grant, Loan, Journal, carries, answered, hasGrant, fresh, run}
+use Rattle.layouts.specs.Machine.{answerOf, countedOf}
+use Rattle.model.specs.Journal.{Grant, Loan, Journal, carries, answered, counted, hasGrant, fresh, run}
 use Rattle.layouts.specs.Layouts.{Layout, flatUnit, checkYes, lists, rows}
 use Rattle.delegation.specs.ChainUnit.{chainUnit, chainFound, chainBuffer}
 use Rattle.agreement.specs.Agreement.{Units, called, freshUnits, flatStep, fed}
@@ -62,10 +63,11 @@ pub data Question : Type 0 where
   asks : Command → Question
   checks : ℕ → Question
 
--- a command's number, or that it is passed over; a check's no, its yes without a depth, or its yes with the greatest allowance and the
--- persons of every chain that has it and the fewest persons
+-- a command's number, of sweep with its count, or that it is passed over; a check's no, its yes without a depth, or its yes with the
+-- greatest allowance and the persons of every chain that has it and the fewest persons
 pub data Said : Type 0 where
   number : ℕ → Said
+  swept : ℕ → ℕ → Said
   passed : Said
   no : Said
   flatYes : Said
@@ -86,9 +88,13 @@ best [] = no
 best (t ∷ ts) =
     yes (highest (t ∷ ts)) (map (λ (u : Route). u .persons) (shortest (keep (λ u. eqb (u .allowance) (highest (t ∷ ts))) (t ∷ ts))))
 
+-- a command's number n, of sweep with the count k
+abbrev pub told : Command → ℕ → ℕ → Said
+told c n k = cond (isSweep c) (swept n k) (number n)
+
 -- 'on 9 and right 1'
 abbrev pub said : Journal → Question → Said
-said j (asks c) = number (answered j c)
+said j (asks c) = told c (answered j c) (counted j c)
 said j (checks p) = best (keep (λ t. eqb (t .last) p) (routesTo j 9 1 7))
 
 -- what lists and rows say: they pass over what they lack, and know grants alone
@@ -272,6 +278,24 @@ examples =
     -- the longest, 8; and with a direct loan beside it
     ∷ row eightPersons (checks 10) (yes 0 ((3 ∷ 4 ∷ 5 ∷ 6 ∷ 7 ∷ 8 ∷ 0 ∷ 10 ∷ []) ∷ [])) no
     ∷ row (eightPersons ++ (Lend 3 10 9 1 0 0 ∷ [])) (checks 10) (yes 0 ((3 ∷ 10 ∷ []) ∷ [])) no
+    -- sweep 'ends all loans past their last shift .. and returns how many there were': none where none has one, none in its last shift, one
+    -- in the next; by anybody who lives; two of five, the others open-ended or in their last shift
+    ∷ row [] (asks (Sweep 0)) (swept 0 0) passed
+    ∷ row lentFor2 (asks (Sweep 0)) (swept 0 0) passed
+    ∷ row (lentFor2 ++ (Shift 0 3 ∷ [])) (asks (Sweep 0)) (swept 0 1) passed
+    ∷ row (lentFor2 ++ (Shift 0 3 ∷ [])) (asks (Sweep 5)) (swept 0 1) passed
+    ∷ row (lentFor2 ++ (Lend 3 0 9 1 0 2 ∷ Lend 3 0 9 1 1 3 ∷ Shift 0 3 ∷ [])) (asks (Sweep 0)) (swept 0 2) passed
+    -- those stay and carry; a second one finds none
+    ∷ row (lentFor2 ++ (Lend 3 0 9 1 1 3 ∷ Shift 0 3 ∷ Sweep 0 ∷ [])) (checks 0) (yes 1 ((3 ∷ 0 ∷ []) ∷ [])) no
+    ∷ row (lentFor2 ++ (Shift 0 3 ∷ Sweep 0 ∷ [])) (checks 5) (yes 0 ((3 ∷ 4 ∷ 5 ∷ []) ∷ [])) no
+    ∷ row (lentFor2 ++ (Shift 0 3 ∷ Sweep 0 ∷ [])) (asks (Sweep 0)) (swept 0 0) passed
+    -- '(numbers 1 to 4)', and 'whatever else it returns is 0': by somebody dead, and beyond the items; then the loan still stands
+    ∷ row (lentFor2 ++ (Shift 0 3 ∷ [])) (asks (Sweep 7)) (swept 4 0) passed
+    ∷ row (lentFor2 ++ (Shift 0 3 ∷ [])) (asks (Sweep 64)) (swept 3 0) passed
+    ∷ row (lentFor2 ++ (Shift 0 3 ∷ Sweep 7 ∷ [])) (asks (Shift 0 2)) (number 12) passed
+    -- the way back is clear for the shift, and what was swept does not come back with it
+    ∷ row (lentFor2 ++ (Shift 0 3 ∷ Sweep 0 ∷ [])) (asks (Shift 0 2)) (number 0) passed
+    ∷ row (lentFor2 ++ (Shift 0 3 ∷ Sweep 0 ∷ Shift 0 2 ∷ [])) (checks 0) no no
     ∷ []
 
 -- what the journal says after an example's commands
@@ -297,7 +321,7 @@ saidOf f buffer = cond (f .yes) (yes (f .depth) (take (f .persons) buffer ∷ []
 
 -- the chain unit, with a chain buffer of zeros
 abbrev pub chainSaid : Units → Question → Said
-chainSaid u (asks c) = number (answerOf chainUnit (u .chains) c)
+chainSaid u (asks c) = told c (answerOf chainUnit (u .chains) c) (countedOf chainUnit (u .chains) c)
 chainSaid u (checks p) = saidOf (chainFound (u .chains) (replicate 8 0) p 9 1) (chainBuffer (u .chains) (replicate 8 0) p 9 1)
 
 -- what the chain unit says to an example's question

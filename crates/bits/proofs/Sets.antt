@@ -1,6 +1,6 @@
 -- Laws of the tests on lists, as equations between Bools.
 use mathlib.Core.Path.{_≡_, refl, sym, ap, ap₂, _∙_}
-use mathlib.Core.Bool.{Bool, true, false, _&&_, _||_, cond, false≢true, and-false}
+use mathlib.Core.Bool.{Bool, true, false, not, _&&_, _||_, cond, false≢true, and-false}
 use mathlib.Core.List.{List, [], _∷_, _++_, map}
 use Prim.Native.Nat.{ℕ, suc, _+_, _≤_}
 use native.Mathlib.Omega.{arith}
@@ -197,6 +197,29 @@ module _ {A : Type 0} where
           → cond b (suc (count f xs)) (count f xs) ≡ length (cond b (x ∷ keep f xs) (keep f xs))
       go true e = ap suc e
       go false e = e
+
+  -- those that pass and those that are kept because they do not are all
+  pub count-kept : (p : A → Bool) (xs : List A) → length xs ≡ length (keep (λ x. not (p x)) xs) + count p xs
+  unfolding keep count
+  count-kept p [] = refl
+  count-kept p (x ∷ xs) = go (p x) (count-kept p xs)
+    where
+      go : (b : Bool) → length xs ≡ length (keep (λ x. not (p x)) xs) + count p xs
+          → suc (length xs)
+          ≡ length (cond (not b) (x ∷ keep (λ x. not (p x)) xs) (keep (λ x. not (p x)) xs)) + cond b (suc (count p xs)) (count p xs)
+      go true e = omega (arith, e)
+      go false e = omega (arith, e)
+
+  -- none passes where no such one was kept
+  pub count-gone : (p f : A → Bool) (xs : List A) → ((x : A) → p x ≡ true → f x ≡ false) → count p (keep f xs) ≡ 0
+  unfolding keep count
+  count-gone p f [] h = refl
+  count-gone p f (x ∷ xs) h = go (f x) (p x) (h x) (count-gone p f xs h) refl
+    where
+      go : (b c : Bool) → (c ≡ true → b ≡ false) → count p (keep f xs) ≡ 0 → p x ≡ c → count p (cond b (x ∷ keep f xs) (keep f xs)) ≡ 0
+      go false c n e q = e
+      go true false n e q = rw q e
+      go true true n e q = absurd (false≢true (sym (n refl)))
 
   -- what is kept of what was kept passes both tests
   pub keep-keep : (f g : A → Bool) (xs : List A) → keep f (keep g xs) ≡ keep (λ x. g x && f x) xs

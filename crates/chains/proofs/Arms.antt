@@ -1,4 +1,5 @@
--- What an accepted command does to the images, verb by verb: from what the parts leave to `chainAfter`.
+-- What an accepted command does to the images and what it counts, verb by verb: from what the parts leave to `chainAfter`, and from what
+-- they count to `chainCount`.
 use mathlib.Core.Path.{_≡_, sym, ap, _∙_, subst}
 use mathlib.Core.Bool.{false, not, _&&_, cond}
 use mathlib.Core.List.{List}
@@ -13,12 +14,13 @@ use Rattle.model.specs.declared.Facts.{Facts}
 use Rattle.model.specs.declared.Answer.{Answer}
 use Rattle.bits.specs.Sets.{any}
 use Rattle.model.specs.Commands.{mostLoans}
-use Rattle.model.specs.Answers.{numberOf, answerFor, table, knows}
+use Rattle.model.specs.declared.Outcome.{Outcome}
+use Rattle.model.specs.Answers.{numberOf, answerFor, Result, refusal, Returns, table, knows}
 use Rattle.model.specs.Journal.{loanIn}
 use Rattle.layouts.specs.Layouts.{grantBytes, liveIn, inOrder}
 use Rattle.delegation.specs.Loans.{wordOf, loanWords, countOf, used}
 use Rattle.delegation.specs.Images.{Images, images}
-use Rattle.delegation.specs.ChainUnit.{chainFacts, chainDone, chainAfter, chainUnit}
+use Rattle.delegation.specs.ChainUnit.{chainFacts, chainDone, chainAfter, chainCount, chainUnit}
 use Rattle.bits.proofs.Sets.{snd}
 use Rattle.model.proofs.Commands.{ranged-fits}
 use Rattle.model.proofs.Invariant as invariant
@@ -34,9 +36,14 @@ pub accepted : (s : Images) (a : Arguments) (f : Facts) (r : Answer) (m : ℕ) �
 accepted s a f r m k e p q h =
     record { ready = k; free = sym (ap (λ g. table g a) e) ∙ sym (judged-number chainUnit s a f r p) ∙ sym q ∙ h }
 
--- what the arm of a verb leaves is what the command leaves
-pub arm : (s x : Images) (a : Arguments) (v : Verb) → a .verb ≡ v → x ≡ chainDone s a v → x ≡ chainAfter s a
-arm s x a v e p = p ∙ sym (ap (chainDone s a) e)
+-- a refusal as its function makes it
+pub as-refused : {S : Type 0} (q : Result S) (x : S) (a : Answer) (r : Outcome) → r ≡ refusal a → Returns q (refusal a) x → Returns q r x
+as-refused q x a r e h = subst (λ o. Returns q o x) (sym e) h
+
+-- what the arm of a verb leaves and counts is what the command leaves and counts
+pub arm : (s x : Images) (k : ℕ) (a : Arguments) (v : Verb) → a .verb ≡ v → x ≡ chainDone s a v → k ≡ chainCount s v
+    → (x ≡ chainAfter s a) × (k ≡ chainCount s (a .verb))
+arm s x k a v e p q = (p ∙ sym (ap (chainDone s a) e), q ∙ sym (ap (chainCount s) e))
 
 -- where a command was accepted, the loans are in order
 pub loans-ordered : (g t : List ℕ) (a : Arguments) → Accepted (images g t) a → Ordered t

@@ -1,26 +1,27 @@
 -- Where a person's grants on an item and right end: from what the parts leave to both images. Where no last grant ended, or
 -- the person had lent nothing there, all loans stay, and an image in order is that of its loans; else the pass ended those that the person
--- made there.
+-- made there. And where a sweep ends loans: each that is in use was kept or is counted (`count-kept`).
 use mathlib.Core.Path.{_≡_, refl, sym, ap, ap₂, _∙_, subst}
 use mathlib.Core.Bool.{Bool, true, false, not, _&&_, cond}
 use mathlib.Core.List.{List}
-use Prim.Native.Nat.{ℕ}
+use Prim.Native.Nat.{ℕ, _%_, _≤_}
 use native.Mathlib.Omega.{arith}
-use borrow.Author.Tests.{le-leb}
+use borrow.Author.Tests.{le-leb, eq-eqb}
 use lib.ListN.{length}
 use lib.Dec.{eqb}
-use Rattle.bits.specs.Sets.{all}
+use Rattle.bits.specs.Sets.{all, count}
 use Rattle.model.specs.declared.Arguments.{Arguments}
 use Rattle.model.specs.declared.Item.{Item}
 use Rattle.model.specs.declared.Right.{Right}
+use Rattle.model.specs.declared.Shift.{Shift}
 use Rattle.model.specs.Commands.{items, rightDepth}
 use Rattle.layouts.specs.Layouts.{grantBytes, held}
-use Rattle.delegation.specs.Loans.{wordFrom, loanWords, headerIn, used, loansImage, loansKept}
+use Rattle.delegation.specs.Loans.{wordFrom, wordPast, loanWords, headerIn, shiftIn, used, loansImage, loansKept}
 use Rattle.delegation.specs.Images.{Images, images}
 use Rattle.delegation.specs.ChainUnit.{lastEndsIn}
-use Rattle.bits.proofs.Sets.{both, all-true, keep-all}
+use Rattle.bits.proofs.Sets.{both, all-true, keep-all, count-kept}
 use Rattle.loans.specs.declared.Rule.the-variants as rule
-use Rattle.loans.specs.Words.{keepsOf, Ordered}
+use Rattle.loans.specs.Words.{keepsOf, endedBy, Ordered}
 use Rattle.chains.specs.Ready.{Accepted, Ending, withoutLoans}
 use Rattle.chains.proofs.Arms.{loans-ordered, stepped, kept-loans}
 
@@ -65,3 +66,17 @@ pub both-end : (s : Images) (p o r : ℕ) (had : Bool) (x hs y : List ℕ) → h
 both-end s p o r had x hs y h e f =
     stepped (images hs (loansKept (λ w. not (lastEndsIn (s .grants) hs p o r && wordFrom p o r w)) (s .loans))) e
     (f ∙ ap₂ (λ (b : Bool) (z : List ℕ). withoutLoans (b && not (held grantBytes z p o r)) p o r (s .loans)) h e)
+
+-- where the loans past their last shift end: a pass at shift `now`, which is the image's own where that is within its limit
+module _ (t : List ℕ) (now : Shift) (long : length t ≡ loanWords) (low : shiftIn t ≤ 255) (e : now .0 ≡ shiftIn t % 256) where
+  present : now .0 ≡ shiftIn t
+  present = omega arith
+
+  pub past-end : (y : List ℕ) → y ≡ cond (eqb (length t) loanWords) (loansKept (keepsOf (rule.Past now)) t) t
+      → y ≡ loansKept (λ w. not (wordPast (shiftIn t) w)) t
+  past-end y h = kept-loans t y _ long h ∙ ap (λ (n : ℕ). loansKept (λ w. not (wordPast n w)) t) present
+
+  -- it ended as many as were past it
+  pub past-counted : (k : ℕ) → k ≡ endedBy (rule.Past now) t → k ≡ count (wordPast (shiftIn t)) (used t)
+  past-counted k h =
+      h ∙ rw (eq-eqb (length t) loanWords long, present) (omega (arith, count-kept (wordPast (shiftIn t)) (used t)))

@@ -1,4 +1,4 @@
-// The chain unit: grants with depths in an image of 32,776 bytes, the shift and the loans in an image of 1,025 words, the nine commands
+// The chain unit: grants with depths in an image of 32,776 bytes, the shift and the loans in an image of 1,025 words, the ten commands
 // over both, and the check that follows carrying loans through anyone with depth left.
 use delegation::loan;
 use grants::Grants;
@@ -14,6 +14,7 @@ use model::Command;
 use model::Depth;
 use model::Facts;
 use model::Item;
+use model::Outcome;
 use model::Right;
 use model::Shift;
 use model::Typed;
@@ -23,17 +24,18 @@ ghost use mathlib.Core.Path.{_≡_};
 ghost use mathlib.Core.Bool.{true, not, _&&_};
 ghost use Prim.Native.Nat.{_+_, _*_, _≤_, _<_};
 ghost use lib.ListN.{length};
-ghost use Rattle.model.specs.declared.Command.the-variants.{Create, Delete, Allow, Withdraw, Lend, Recall, AllowSet, Drop};
+ghost use Rattle.bits.specs.Sets.{count};
+ghost use Rattle.model.specs.declared.Command.the-variants.{Create, Delete, Allow, Withdraw, Lend, Recall, AllowSet, Drop, Sweep};
 ghost use Rattle.model.specs.declared.Command.the-variants as command;
 ghost use Rattle.model.specs.Commands.{Ranged, rawOf};
-ghost use Rattle.model.specs.Answers.{numberOf, foundSaid};
-ghost use Rattle.layouts.specs.Machine.{Judged, Ran};
+ghost use Rattle.model.specs.Answers.{numberOf, Returns, foundSaid};
+ghost use Rattle.layouts.specs.Machine.{judgedIn, RanCounting};
 ghost use Rattle.model.specs.Journal.{grant, loanIn};
 ghost use Rattle.layouts.specs.Layouts.{grantBytes, grantCells, held};
-ghost use Rattle.delegation.specs.Loans.{wordOf, loanWords, countOf, loansAt};
+ghost use Rattle.delegation.specs.Loans.{wordOf, wordPast, loanWords, countOf, shiftIn, used, loansKept, loansAt};
 ghost use Rattle.delegation.specs.Search.{foundOf, chainOf};
 ghost use Rattle.delegation.specs.Images.{images};
-ghost use Rattle.delegation.specs.ChainUnit.{chainUnit, chainInOrder, chainGuarded, chainFacts, chainDropped, chainWithdrawn, chainAfter, ChainChecks, ChainInspects, ChainFreshens};
+ghost use Rattle.delegation.specs.ChainUnit.{chainUnit, chainInOrder, chainGuarded, chainFacts, chainDropped, chainWithdrawn, chainAfter, chainCount, ChainChecks, ChainInspects, ChainFreshens};
 ghost use Rattle.chains.specs.InShape.{InShape};
 ghost use Rattle.chains.specs.Ready.{Ready, Accepted, Ending, withoutItem, withoutLoans};
 
@@ -193,11 +195,22 @@ fn drop_grants(grants: &mut [u8], loans: &mut [u32], to: Item, on: Item, right: 
     end_loans(grants, loans, had, to, on, right);
 }
 
-// What an accepted command does.
-fn apply(grants: &mut [u8], loans: &mut [u32], t: Typed)
+// Ends the loans that are past their last shift, and says how many those were.
+fn end_past(loans: &mut [u32]) -> u32
+    requires { ⌜ (length (now loans) ≡ loanWords) × (shiftIn (now loans) ≤ 255) ⌝ }
+    ensures { λ r. ⌜ (now (loans .exit)
+        ≡ loansKept (λ w. not (wordPast (shiftIn (now (loans .entry))) w)) (now (loans .entry)))
+        × (r ≡ count (wordPast (shiftIn (now (loans .entry)))) (used (now (loans .entry)))) ⌝ }
+{
+    let shift = loans::shift::present(loans);
+    loans::retain(loans, Rule::Past(shift))
+}
+
+// What an accepted command does, and what it counts.
+fn apply(grants: &mut [u8], loans: &mut [u32], t: Typed) -> u32
     requires { ⌜ Accepted (images (now grants) (now loans)) (rawOf t) ⌝ }
-    ensures { λ _. ⌜ images (now (grants .exit)) (now (loans .exit)) ≡ chainAfter (images (now (grants .entry)) (now (loans .entry)))
-        (rawOf t) ⌝ }
+    ensures { λ r. ⌜ (images (now (grants .exit)) (now (loans .exit)) ≡ chainAfter (images (now (grants .entry)) (now (loans .entry)))
+        (rawOf t)) × (r ≡ chainCount (images (now (grants .entry)) (now (loans .entry))) (rawOf t .verb)) ⌝ }
 {
     let verb = t.verb;
     match verb {
@@ -210,46 +223,51 @@ fn apply(grants: &mut [u8], loans: &mut [u32], t: Typed)
         Verb::Shift => set_shift(loans, t.shift),
         Verb::AllowSet => grants::put_grants(grants, t.set, t.on, t.right, t.depth),
         Verb::Drop => drop_grant(grants, loans, t.to, t.on, t.right, t.depth),
+        Verb::Sweep => return end_past(loans),
     }
+    0
 }
 
 // Numbers 4 to 10 and 12 to 14, and what follows.
-fn settle(grants: &mut [u8], loans: &mut [u32], t: Typed) -> Answer
+fn settle(grants: &mut [u8], loans: &mut [u32], t: Typed) -> Outcome
     requires { ⌜ Ready (images (now grants) (now loans)) (rawOf t) ⌝ }
-    ensures { λ r. ⌜ Judged chainUnit (images (now (grants .entry)) (now (loans .entry))) (rawOf t) (numberOf r)
+    ensures { λ r. ⌜ Returns (judgedIn chainUnit (images (now (grants .entry)) (now (loans .entry))) (rawOf t)) r
         (images (now (grants .exit)) (now (loans .exit))) ⌝ }
 {
     let f = facts(grants, loans, t);
     let a = judge(t, f);
     let n = a.number();
     if n != 0 {
-        return a;
+        return Outcome::refused(a);
     }
-    apply(grants, loans, t);
-    a
+    let k = apply(grants, loans, t);
+    Outcome {
+        answer: a,
+        count: k,
+    }
 }
 
 // Any command, from the numbers that arrived; a chain unit has them all.
-pub fn offer(grants: &mut [u8], loans: &mut [u32], c: Command) -> Answer
-    ensures { λ r. ⌜ Ran chainUnit (images (now (grants .entry)) (now (loans .entry))) c r
+pub fn offer(grants: &mut [u8], loans: &mut [u32], c: Command) -> Outcome
+    ensures { λ r. ⌜ RanCounting chainUnit (images (now (grants .entry)) (now (loans .entry))) c r
         (images (now (grants .exit)) (now (loans .exit))) ⌝ }
 {
     let a = admit::command(order(grants, loans, true), c);
     match a {
-        CommandAdmission::Refused(r) => r,
+        CommandAdmission::Refused(r) => Outcome::refused(r),
         CommandAdmission::Ready(t) => settle(grants, loans, t),
     }
 }
 
-pub fn create(grants: &mut [u8], loans: &mut [u32], by: u32, on: u32) -> Answer
-    ensures { λ r. ⌜ Ran chainUnit (images (now (grants .entry)) (now (loans .entry))) (Create by on) r
+pub fn create(grants: &mut [u8], loans: &mut [u32], by: u32, on: u32) -> Outcome
+    ensures { λ r. ⌜ RanCounting chainUnit (images (now (grants .entry)) (now (loans .entry))) (Create by on) r
         (images (now (grants .exit)) (now (loans .exit))) ⌝ }
 {
     offer(grants, loans, Command::Create { by, on })
 }
 
-pub fn delete(grants: &mut [u8], loans: &mut [u32], by: u32, on: u32) -> Answer
-    ensures { λ r. ⌜ Ran chainUnit (images (now (grants .entry)) (now (loans .entry))) (Delete by on) r
+pub fn delete(grants: &mut [u8], loans: &mut [u32], by: u32, on: u32) -> Outcome
+    ensures { λ r. ⌜ RanCounting chainUnit (images (now (grants .entry)) (now (loans .entry))) (Delete by on) r
         (images (now (grants .exit)) (now (loans .exit))) ⌝ }
 {
     offer(grants, loans, Command::Delete { by, on })
@@ -263,8 +281,8 @@ pub fn allow(
     on: u32,
     right: u32,
     depth: u32,
-) -> Answer
-    ensures { λ r. ⌜ Ran chainUnit (images (now (grants .entry)) (now (loans .entry))) (Allow by to on right depth) r
+) -> Outcome
+    ensures { λ r. ⌜ RanCounting chainUnit (images (now (grants .entry)) (now (loans .entry))) (Allow by to on right depth) r
         (images (now (grants .exit)) (now (loans .exit))) ⌝ }
 {
     offer(
@@ -289,8 +307,8 @@ pub fn allow_set(
     on: u32,
     right: u32,
     depth: u32,
-) -> Answer
-    ensures { λ r. ⌜ Ran chainUnit (images (now (grants .entry)) (now (loans .entry))) (AllowSet by set on right depth) r
+) -> Outcome
+    ensures { λ r. ⌜ RanCounting chainUnit (images (now (grants .entry)) (now (loans .entry))) (AllowSet by set on right depth) r
         (images (now (grants .exit)) (now (loans .exit))) ⌝ }
 {
     offer(
@@ -314,8 +332,8 @@ pub fn withdraw(
     to: u32,
     on: u32,
     right: u32,
-) -> Answer
-    ensures { λ r. ⌜ Ran chainUnit (images (now (grants .entry)) (now (loans .entry))) (Withdraw by to on right) r
+) -> Outcome
+    ensures { λ r. ⌜ RanCounting chainUnit (images (now (grants .entry)) (now (loans .entry))) (Withdraw by to on right) r
         (images (now (grants .exit)) (now (loans .exit))) ⌝ }
 {
     offer(grants, loans, Command::Withdraw { by, to, on, right })
@@ -330,8 +348,8 @@ pub fn drop(
     on: u32,
     right: u32,
     depth: u32,
-) -> Answer
-    ensures { λ r. ⌜ Ran chainUnit (images (now (grants .entry)) (now (loans .entry))) (Drop by to on right depth) r
+) -> Outcome
+    ensures { λ r. ⌜ RanCounting chainUnit (images (now (grants .entry)) (now (loans .entry))) (Drop by to on right depth) r
         (images (now (grants .exit)) (now (loans .exit))) ⌝ }
 {
     offer(
@@ -356,8 +374,8 @@ pub fn lend(
     right: u32,
     depth: u32,
     last: u32,
-) -> Answer
-    ensures { λ r. ⌜ Ran chainUnit (images (now (grants .entry)) (now (loans .entry))) (Lend by to on right depth last) r
+) -> Outcome
+    ensures { λ r. ⌜ RanCounting chainUnit (images (now (grants .entry)) (now (loans .entry))) (Lend by to on right depth last) r
         (images (now (grants .exit)) (now (loans .exit))) ⌝ }
 {
     offer(
@@ -383,8 +401,8 @@ pub fn recall(
     right: u32,
     depth: u32,
     last: u32,
-) -> Answer
-    ensures { λ r. ⌜ Ran chainUnit (images (now (grants .entry)) (now (loans .entry))) (Recall by to on right depth last) r
+) -> Outcome
+    ensures { λ r. ⌜ RanCounting chainUnit (images (now (grants .entry)) (now (loans .entry))) (Recall by to on right depth last) r
         (images (now (grants .exit)) (now (loans .exit))) ⌝ }
 {
     offer(
@@ -401,11 +419,19 @@ pub fn recall(
     )
 }
 
-pub fn shift(grants: &mut [u8], loans: &mut [u32], by: u32, shift: u32) -> Answer
-    ensures { λ r. ⌜ Ran chainUnit (images (now (grants .entry)) (now (loans .entry))) (command.Shift by shift) r
+pub fn shift(grants: &mut [u8], loans: &mut [u32], by: u32, shift: u32) -> Outcome
+    ensures { λ r. ⌜ RanCounting chainUnit (images (now (grants .entry)) (now (loans .entry))) (command.Shift by shift) r
         (images (now (grants .exit)) (now (loans .exit))) ⌝ }
 {
     offer(grants, loans, Command::Shift { by, now: shift })
+}
+
+// Ends every loan that is past its last shift; the count says how many those were.
+pub fn sweep(grants: &mut [u8], loans: &mut [u32], by: u32) -> Outcome
+    ensures { λ r. ⌜ RanCounting chainUnit (images (now (grants .entry)) (now (loans .entry))) (Sweep by) r
+        (images (now (grants .exit)) (now (loans .exit))) ⌝ }
+{
+    offer(grants, loans, Command::Sweep { by })
 }
 
 // The answer to a check, and its chain, with room in `out` for the loans in use. The carrying loans of the item and right are picked once;

@@ -1,5 +1,5 @@
 -- The chain unit's images are a function of the journal, and its commands follow it.
-use mathlib.Core.Path.{_≡_, refl, sym, ap, _∙_}
+use mathlib.Core.Path.{_≡_, refl, sym, ap, ap₂, _∙_}
 use mathlib.Core.Bool.{Bool, true, false, not, _&&_, cond, false≢true}
 use mathlib.Core.List.{[]}
 use Prim.Native.Nat.{ℕ}
@@ -8,22 +8,23 @@ use lib.ListN.{length}
 use lib.Dec.{eqb, leb, ltb}
 use Rattle.model.specs.declared.Command.{Command}
 use Rattle.model.specs.declared.Arguments.{Arguments}
-use Rattle.model.specs.Commands.{argumentsOf, fits}
-use Rattle.layouts.specs.Machine.{answerOf, stepOf}
-use Rattle.model.specs.Journal.{Grant, Loan, Journal, loanIn, sameGrant, carries, isDated, lives, standing, facts, answered, fresh, apply, step}
+use Rattle.bits.specs.Sets.{all, keep, count}
+use Rattle.model.specs.Commands.{argumentsOf, isSweep, fits}
+use Rattle.layouts.specs.Machine.{answerOf, countedOf, stepOf}
+use Rattle.model.specs.Journal.{Grant, Loan, Journal, loanIn, sameGrant, carries, isPast, isDated, lives, standing, facts, answered, fresh, apply, step, counted}
 use Rattle.layouts.specs.Layouts.{grantBytes, grantCells, liveIn}
-use Rattle.delegation.specs.Loans.{wordOf, wordDated, wordGood, loanWords, freshHeader, loansImage}
+use Rattle.delegation.specs.Loans.{wordOf, wordDated, wordPast, wordGood, shiftIn, used, loanWords, freshHeader, loansImage}
 use Rattle.delegation.specs.Images.{images, standingIn}
 use Rattle.delegation.specs.ChainUnit.{chainGuarded, chainUnit, chainFacts, chainAfter, chainFresh}
-use Rattle.bits.proofs.Sets.{fst, snd, both, by-cases, find, any-cong, all-mono}
+use Rattle.bits.proofs.Sets.{fst, snd, both, by-cases, find, any-cong, all-mono, all-keep, count-keep}
 use Rattle.model.proofs.Commands.{ranged-command}
-use Rattle.model.proofs.Invariant.{same-grant, loans-ranged}
+use Rattle.model.proofs.Invariant.{same-grant, loans-ranged, keep-loans}
 use Rattle.model.specs.Invariant.{ranged, sound, Inv, rangedLoan, soundLoan, LoanInv, Kept}
 use Rattle.model.proofs.Answers.{table-same}
 use Rattle.layouts.proofs.Layouts.{bytes-laws, place-same, live-of, members-of, bit-at-of, length-of, held-of, order-of, fresh-of}
 use Rattle.model.proofs.AllowSet.{answered-table}
-use Rattle.delegation.proofs.Loans.{word-fields, sorted, rising-sorted, all-sorted, any-sorted, word-in, used-of, count-of, shift-of, length-loans, order-loans}
-use Rattle.delegation.proofs.Steps.{grantsOf, headerFor, imagesOf, few, few-sorted, chain-after}
+use Rattle.delegation.proofs.Loans.{word-fields, sorted, keep-sorted, length-sorted, rising-sorted, all-sorted, any-sorted, word-in, used-of, count-of, shift-of, length-loans, order-loans}
+use Rattle.delegation.proofs.Steps.{grantsOf, headerFor, imagesOf, few, few-sorted, word-past, chain-after}
 
 -- ---- in order
 word-good : (j : Journal) (l : Loan) → soundLoan (lives j) l ≡ true → wordGood (liveIn grantBytes (grantsOf j)) (wordOf l) ≡ true
@@ -97,6 +98,25 @@ step-chain j v c = rw (answer-chain j v c) (go (eqb (answered j c) 0) refl)
         → cond b (chainAfter (imagesOf j) (argumentsOf c)) (imagesOf j) ≡ imagesOf (cond b (apply j c) j)
     go true e = chain-after j v c (eqb-true (answered j c) 0 e)
     go false e = refl
+
+-- ---- and its count
+-- as many loan words are past as loans of the journal
+past-count : (j : Journal) → Kept j
+    → count (wordPast (shiftIn (imagesOf j .loans))) (used (imagesOf j .loans)) ≡ count (λ (l : Loan). isPast (j .shift) (l .last)) (j .loans)
+past-count j v =
+    let past : Loan → Bool = λ l. isPast (j .shift) (l .last) in
+    let ranged-past : all rangedLoan (keep past (j .loans)) ≡ true
+    = all-mono _ rangedLoan (keep past (j .loans)) (all-keep rangedLoan past (j .loans) (loans-ranged j (v .loan-inv)))
+    (λ l h. fst (rangedLoan l) (past l) h) in
+    ap (count (wordPast (shiftIn (imagesOf j .loans)))) (used-of (headerFor j) (sorted (j .loans)) (few-sorted j (v .loan-inv)))
+    ∙ count-keep _ (sorted (j .loans))
+    ∙ ap length (keep-sorted past _ rangedLoan (j .loans) (loans-ranged j (v .loan-inv)) (word-past j v))
+    ∙ length-sorted (keep past (j .loans)) ranged-past (keep-loans j past (v .loan-inv) .1)
+    ∙ sym (count-keep past (j .loans))
+
+pub count-chain : (j : Journal) → Kept j → (c : Command) → countedOf chainUnit (imagesOf j) c ≡ counted j c
+count-chain j v c =
+    ap₂ (λ (n k : ℕ). cond (eqb n 0) (cond (isSweep c) k 0) 0) (answer-chain j v c) (past-count j v)
 
 pub fresh-chain : chainFresh ≡ imagesOf fresh
 unfolding chainFresh fresh sorted freshHeader

@@ -12,7 +12,7 @@ use lib.ListN.{length, getD}
 use lib.Dec.{eqb, leb}
 use Rattle.bits.specs.Sets.{any, keep}
 use Rattle.model.specs.declared.Command.{Command}
-use Rattle.model.specs.declared.Command.the-variants.{Create, Delete, Allow, Withdraw, Lend, Recall, Shift, AllowSet, Drop}
+use Rattle.model.specs.declared.Command.the-variants.{Create, Delete, Allow, Withdraw, Lend, Recall, Shift, AllowSet, Drop, Sweep}
 use Rattle.model.specs.Commands.{depths, items, rightDepth, argumentsOf}
 use Rattle.model.specs.Answers.{asked}
 use Rattle.model.specs.Journal.{Grant, Loan, grant, isFrom, carries, loanIn, ofEachDepth, lendsFrom}
@@ -47,7 +47,7 @@ holding-is x p o r w =
 -- the loans image of images in order
 module _ (s : Images) (long : length (s .loans) ≡ loanWords) (order : chainInOrder s ≡ true) where
   -- where loans were kept by a test
-  lent-kept : (q : ℕ → Bool) (w : ℕ) → any (eqb w) (used (loansKept q (s .loans))) ≡ any (eqb w) (used (s .loans)) && q w
+  pub lent-kept : (q : ℕ → Bool) (w : ℕ) → any (eqb w) (used (loansKept q (s .loans))) ≡ any (eqb w) (used (s .loans)) && q w
   lent-kept q w =
       ap (any (eqb w)) (kept-used _ (s .loans) long (loans-in-order s long order) q)
       ∙ any-kept (eqb w) q (λ x. true) (q w) (used (s .loans)) (all-true (used (s .loans))) (λ x k e. ap q (sym (eqb-true w x e)))
@@ -95,6 +95,7 @@ module _ (p o r : ℕ) where
       ∙ ap₂ (λ (x y : Bool). x || y) (word-from p o r (loanIn a) (d .fits) ∙ h) n
   none-after s (Recall by to on right depth last) e h n =
       let k = readable s _ e in none-kept s (k .0) (k .1) (wordFrom p o r) _ n
+  none-after s (Sweep by) e h n = let k = readable s _ e in none-kept s (k .0) (k .1) (wordFrom p o r) _ n
   none-after s (Shift by now) e h n =
       let k = readable s _ e in
       ap (any (wordFrom p o r)) (at-used _ (s .loans) (k .0) (loans-in-order s (k .0) (k .1)) now) ∙ n
@@ -205,7 +206,7 @@ unfolding withdrawn
 withdrawn-fewer x p o r h t = stands-fewer-all (ofEachDepth p o r) x h t
 
 -- what a command does, or nothing
-either-way : (C : Images → Type 0) (s : Images) (c : Command) → C s → (answerOf chainUnit s c ≡ 0 → C (stepOf chainUnit s c))
+pub either-way : (C : Images → Type 0) (s : Images) (c : Command) → C s → (answerOf chainUnit s c ≡ 0 → C (stepOf chainUnit s c))
     → C (stepOf chainUnit s c)
 either-way C s c same done =
     by-cases (eqb (answerOf chainUnit s c) 0) (λ e. done (eqb-true (answerOf chainUnit s c) 0 e))

@@ -12,3 +12,4 @@ pub mod AllowSet
 pub mod Dropped
 pub mod Drop
 pub mod EndsLoans
+pub mod Sweep

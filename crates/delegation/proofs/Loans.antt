@@ -290,6 +290,9 @@ module _ (f : ℕ → Bool) (t : List ℕ) (l : length t ≡ loanWords) (o : loa
     pub kept-used : used (loansKept p t) ≡ keep p (used t)
     kept-used = used-of (headerIn t) (keep p (used t)) few-kept
 
+    pub kept-count : countOf (loansKept p t) ≡ length (keep p (used t))
+    kept-count = count-of (headerIn t) (keep p (used t)) few-kept
+
     pub kept-shift : shiftIn (loansKept p t) ≡ shiftIn t
     kept-shift = shift-of (headerIn t) (keep p (used t)) few-kept
 
@@ -317,7 +320,26 @@ module _ (f : ℕ → Bool) (t : List ℕ) (l : length t ≡ loanWords) (o : loa
           room true true n e = absurd (false≢true (sym n))
 
   -- at another shift
+  at-image : (n : ℕ) → loansAt n t ≡ loansImage (movedTo (headerIn t) n) (used t)
+  at-image n = ap (loansAt n) (order-image f t l o .2) ∙ at-of (headerIn t) (used t) few-used n
+
   pub at-used : (n : ℕ) → used (loansAt n t) ≡ used t
-  at-used n =
-      ap (λ (x : List ℕ). used (loansAt n x)) (order-image f t l o .2)
-      ∙ ap used (at-of (headerIn t) (used t) few-used n) ∙ used-of (movedTo (headerIn t) n) (used t) few-used
+  at-used n = ap used (at-image n) ∙ used-of (movedTo (headerIn t) n) (used t) few-used
+
+  pub at-shift : (n : ℕ) → shiftIn (loansAt n t) ≡ n
+  unfolding movedTo
+  at-shift n = ap shiftIn (at-image n) ∙ shift-of (movedTo (headerIn t) n) (used t) few-used
+
+  -- at its own it is itself
+  pub at-present : loansAt (shiftIn t) t ≡ t
+  unfolding movedTo
+  at-present = at-image (shiftIn t) ∙ sym (order-image f t l o .2)
+
+  pub at-long : (n : ℕ) → length (loansAt n t) ≡ loanWords
+  at-long n = ap length (at-image n) ∙ length-loans (movedTo (headerIn t) n) (used t) few-used
+
+  pub at-order : (n : ℕ) → n ≤ 255 → loansInOrder f (loansAt n t) ≡ true
+  unfolding movedTo
+  at-order n h =
+      ap (loansInOrder f) (at-image n)
+      ∙ order-loans f (movedTo (headerIn t) n) (used t) h few-used (order-image f t l o .1) good-used

@@ -7,14 +7,14 @@ use native.Mathlib.Omega.{arith}
 use lib.ListN.{length}
 use lib.Dec.{eqb}
 use Rattle.model.specs.declared.Command.{Command}
-use Rattle.model.specs.declared.Command.the-variants.{Create, Delete, Allow, Withdraw, Lend, Recall, Shift, AllowSet, Drop}
+use Rattle.model.specs.declared.Command.the-variants.{Create, Delete, Allow, Withdraw, Lend, Recall, Shift, AllowSet, Drop, Sweep}
 use Rattle.delegation.specs.declared.loan.Header.{Header}
 use Rattle.bits.specs.Sets.{all}
 use Rattle.model.specs.Commands.{items, rightDepth, argumentsOf, membersOf, mostLoans}
-use Rattle.model.specs.Journal.{Grant, Loan, Journal, grant, loan, sameLoan, loanNames, hasGrant, facts, answered, dropped, droppedAll, ofEachDepth, apply}
+use Rattle.model.specs.Journal.{Grant, Loan, Journal, grant, loan, sameLoan, loanNames, isPast, hasGrant, facts, answered, dropped, droppedAll, ofEachDepth, apply}
 use Rattle.layouts.specs.Layouts.{grantBytes, held}
 use Rattle.layouts.specs.Layouts as image
-use Rattle.delegation.specs.Loans.{wordOf, wordNames, movedTo, loansImage}
+use Rattle.delegation.specs.Loans.{wordOf, wordNames, wordPast, shiftIn, movedTo, loansImage}
 use Rattle.delegation.specs.Images.{Images, images}
 use Rattle.delegation.specs.ChainUnit.{chainDropped, chainDroppedAll, chainWithdrawn, chainAfter}
 use Rattle.bits.proofs.Sets.{fst, snd, both}
@@ -25,7 +25,7 @@ use Rattle.layouts.specs.Laws.{imageOf}
 use Rattle.layouts.proofs.Layouts.{bytes-laws, held-of, created-of, deleted-of, allowed-of, allowed-set-of, same-image}
 use Rattle.layouts.proofs.Drops.{dropped-of}
 use Rattle.model.proofs.Drop.{ended-inv, ended-loans, eight-ranged}
-use Rattle.delegation.proofs.Loans.{word-names, word-from, word-same, sorted, keep-sorted, sorted-add, length-sorted, kept-of, with-of, at-of}
+use Rattle.delegation.proofs.Loans.{word-fields, shift-of, word-names, word-from, word-same, sorted, keep-sorted, sorted-add, length-sorted, kept-of, with-of, at-of}
 
 -- ---- the chain unit
 abbrev pub grantsOf : Journal → List ℕ
@@ -75,6 +75,12 @@ chain-dropped-all (g ∷ gs) j v h =
     ∙ chain-dropped-all gs (dropped j g)
     (record { inv = ended-inv j (g ∷ []) (v .inv); loan-inv = ended-loans j (g ∷ []) (v .loan-inv) }) (snd (ranged g) (all ranged gs) h)
 
+-- a loan is past in the images where it is in the journal
+pub word-past : (j : Journal) → Kept j → (l : Loan) → rangedLoan l ≡ true
+    → wordPast (shiftIn (imagesOf j .loans)) (wordOf l) ≡ isPast (j .shift) (l .last)
+word-past j v l h =
+    ap₂ isPast (shift-of (headerFor j) (sorted (j .loans)) (few-sorted j (v .loan-inv))) (word-fields l h .5)
+
 pub chain-after : (j : Journal) → Kept j → (c : Command) → answered j c ≡ 0 → chainAfter (imagesOf j) (argumentsOf c) ≡ imagesOf (apply j c)
 chain-after j v (Create by on) e = ap (λ g. images g (loansOf j (j .loans))) (created-of grantBytes bytes-laws j (v .inv) by on)
 chain-after j v (Delete by on) e =
@@ -106,6 +112,12 @@ chain-after j v (Recall by to on right depth last) e =
     ∙ ap (loansImage (headerFor j))
     (keep-sorted (λ m. not (sameLoan l m)) (λ w. not (eqb (wordOf l) w)) rangedLoan (j .loans)
     (loans-ranged j (v .loan-inv)) (λ m h. ap not (word-same l m (accepted (facts j a) a e .fits) h))))
+chain-after j v (Sweep by) e =
+    ap₂ images (same-image grantBytes bytes-laws j (apply j (Sweep by)) refl refl)
+    (kept-of (headerFor j) (sorted (j .loans)) (few-sorted j (v .loan-inv)) (λ w. not (wordPast (shiftIn (imagesOf j .loans)) w))
+    ∙ ap (loansImage (headerFor j))
+    (keep-sorted (λ l. not (isPast (j .shift) (l .last))) (λ w. not (wordPast (shiftIn (imagesOf j .loans)) w)) rangedLoan (j .loans)
+    (loans-ranged j (v .loan-inv)) (λ l h. ap not (word-past j v l h))))
 chain-after j v (Shift by now) e =
     ap₂ images (same-image grantBytes bytes-laws j (apply j (Shift by now)) refl refl)
     (unfold movedTo in (at-of (headerFor j) (sorted (j .loans)) (few-sorted j (v .loan-inv)) now))

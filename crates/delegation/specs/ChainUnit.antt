@@ -1,4 +1,4 @@
--- The chain unit: its nine commands, and its check.
+-- The chain unit: its ten commands, and its check.
 use mathlib.Core.Path.{_≡_}
 use mathlib.Core.Bool.{Bool, true, not, _&&_, cond}
 use mathlib.Core.List.{List, [], _∷_}
@@ -11,13 +11,13 @@ use Rattle.model.specs.declared.Verb.{Verb}
 use Rattle.model.specs.declared.Verb.the-variants as verb
 use Rattle.model.specs.declared.Answer.{Answer}
 use Rattle.model.specs.declared.ChainChecked.{ChainChecked}
-use Rattle.bits.specs.Sets.{any, all}
+use Rattle.bits.specs.Sets.{any, all, count}
 use Rattle.layouts.specs.Machine.{Machine, guardedBy}
-use Rattle.model.specs.Commands.{membersOf, mostLoans}
+use Rattle.model.specs.Commands.{sweeps, membersOf, mostLoans}
 use Rattle.model.specs.Answers.{Found, asked, Numbered, chainCheckedOf, nothing, _when_else_}
-use Rattle.model.specs.Journal.{Grant, Loan, grant, ofEachDepth, carries, loanIn}
+use Rattle.model.specs.Journal.{Grant, Loan, grant, ofEachDepth, isPast, loanIn}
 use Rattle.layouts.specs.Layouts.{grantBytes, grantCells, liveIn, held, inOrder, created, deleted, allowed, allowedSet, dropped, freshImage}
-use Rattle.delegation.specs.Loans.{wordOf, wordNames, wordFrom, wordDated, loanWords, countOf, shiftIn, used, loansImage, loansWith, loansKept, loansAt, freshHeader, loansInOrder}
+use Rattle.delegation.specs.Loans.{wordOf, wordNames, wordFrom, wordDated, wordPast, loanWords, countOf, shiftIn, used, loansImage, loansWith, loansKept, loansAt, freshHeader, loansInOrder}
 use Rattle.delegation.specs.Images.{Images, images, standingIn}
 use Rattle.delegation.specs.Search.{foundOf, chainOf}
 
@@ -55,7 +55,7 @@ chainFacts s a = record {
   members = all (liveIn grantBytes (s .grants)) (membersOf (a .set));
   edits = held grantBytes (s .grants) (a .by) (a .on) 0;
   back = ltb (a .shift) (shiftIn (s .loans)) && any wordDated (used (s .loans));
-  past = not (carries (shiftIn (s .loans)) (a .shift));
+  past = isPast (shiftIn (s .loans)) (a .shift);
   full = leb mostLoans (countOf (s .loans)) && not (any (eqb (wordOf (loanIn a))) (used (s .loans)));
 }
 
@@ -90,15 +90,27 @@ chainDone s a verb.Lend = images (s .grants) (loansWith (wordOf (loanIn a)) (s .
 chainDone s a verb.Recall = images (s .grants) (loansKept (λ w. not (eqb (wordOf (loanIn a)) w)) (s .loans))
 chainDone s a verb.Shift = images (s .grants) (loansAt (a .shift) (s .loans))
 chainDone s a verb.Drop = chainDropped s (grant (a .to) (a .on) (a .right) (a .depth))
+chainDone s a verb.Sweep = images (s .grants) (loansKept (λ w. not (wordPast (shiftIn (s .loans)) w)) (s .loans))
 chainDone s a verb.AllowSet = images (allowedSet grantBytes (s .grants) (a .set) (a .on) (a .right) (a .depth)) (s .loans)
 
 -- by the verb of its arguments
 abbrev pub chainAfter : Images → Arguments → Images
 chainAfter s a = chainDone s a (a .verb)
 
+-- what an accepted command of that verb counts: sweep the loans past their last shift, and no other anything
+abbrev pub chainCount : Images → Verb → ℕ
+chainCount s v = cond (sweeps v) (count (wordPast (shiftIn (s .loans))) (used (s .loans))) 0
+
 -- a chain unit has every command
 abbrev pub chainUnit : Machine Images
-chainUnit = record { has = λ c. true; sized = λ s. chainSized s true; ordered = chainInOrder; facts = chainFacts; after = chainAfter }
+chainUnit = record {
+  has = λ c. true;
+  sized = λ s. chainSized s true;
+  ordered = chainInOrder;
+  facts = chainFacts;
+  after = chainAfter;
+  counts = λ s a. chainCount s (a .verb);
+}
 
 -- answer r and images x of a look at the images alone, which knows 1 and 2
 abbrev pub ChainInspects : Images → Answer → Images → Type 0
@@ -130,6 +142,15 @@ ChainChecks s buffer p o r a b x =
 abbrev pub NobodyGains : Images → Images → Type 0
 NobodyGains s x = (buffer : List ℕ) (p o r : ℕ) → chainFound x buffer p o r .yes ≡ true
     → (chainFound s buffer p o r .yes ≡ true) × (chainFound x buffer p o r .depth ≤ chainFound s buffer p o r .depth)
+
+-- images at shift n, 'with all else equal'
+abbrev pub chainAt : ℕ → Images → Images
+chainAt n s = images (s .grants) (loansAt n (s .loans))
+
+-- every check of images x has the number that it has of images s, and the same yes or no, depth and number of persons
+abbrev pub SameAnswers : Images → Images → Type 0
+SameAnswers s x = (buffer : List ℕ) (p o r : ℕ)
+    → (chainCheckNumber x buffer p o r ≡ chainCheckNumber s buffer p o r) × (chainFound x buffer p o r ≡ chainFound s buffer p o r)
 
 -- the images of a fresh unit: the fresh grants, and no loan
 unfoldable pub chainFresh : Images

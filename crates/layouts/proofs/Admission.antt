@@ -1,7 +1,7 @@
 -- What numbers 1 to 3 refuse and what they let through, in any unit: the number of a command and that of a check go by the same tests in
 -- the same order, so a refusal has its number, and past them the number is the one that the unit gives.
 use mathlib.Core.Path.{_≡_, refl, sym, ap, _∙_, subst}
-use mathlib.Core.Bool.{Bool, true, not, _&&_}
+use mathlib.Core.Bool.{Bool, true, false, not, _&&_}
 use mathlib.Core.List.{List}
 use Prim.Native.Nat.{ℕ, _<_}
 use native.Mathlib.Omega.{arith}
@@ -15,17 +15,18 @@ use Rattle.model.specs.declared.Right.{Right}
 use Rattle.model.specs.declared.Question.the-variants as question
 use Rattle.model.specs.declared.Answer.{Answer}
 use Rattle.model.specs.declared.Answer.the-variants as is
+use Rattle.model.specs.declared.Outcome.{Outcome}
 use Rattle.model.specs.declared.Checked.{Checked}
 use Rattle.model.specs.declared.Checked.the-variants as checked
 use Rattle.model.specs.Commands.{argumentsOf, typedOf, rawOf, fits, items, rightDepth, questionOf, Ranged}
-use Rattle.model.specs.Answers.{asked, table, numberOf, checkedOf, _when_else_}
+use Rattle.model.specs.Answers.{asked, table, numberOf, refusal, Returns, checkedOf, _when_else_}
 use Rattle.model.proofs.Answers.{numbered, checked-refused}
 use Rattle.model.proofs.Commands.{ranged-command, question-asked, asked-ranged}
 use Rattle.layouts.specs.declared.admit.CommandAdmission.{CommandAdmission}
 use Rattle.layouts.specs.declared.admit.CommandAdmission.the-variants as command
 use Rattle.layouts.specs.declared.admit.CheckAdmission.{CheckAdmission}
 use Rattle.layouts.specs.declared.admit.CheckAdmission.the-variants as check
-use Rattle.layouts.specs.Machine.{Machine, guardedBy, answerOf, Judged, Ran}
+use Rattle.layouts.specs.Machine.{Machine, guardedBy, answerOf, judgedIn, Judged, Ran, RanCounting}
 use Rattle.layouts.specs.Admission.{admission, commandAdmission, checkAdmission}
 use Rattle.layouts.specs.Layouts.{Layout, inOrder, guarded, held, Checks}
 use Rattle.layouts.proofs.Guarding.{guard-off, guard-on}
@@ -49,23 +50,42 @@ module _ {A : Type 0} (order : Answer) (within : Bool) (refused : Answer → A) 
 
 -- ---- a command, in any machine
 module _ {S : Type 0} (M : Machine S) (s : S) (c : Command) where
-  -- what is to be known of an admission
+  -- what is to be known of an admission, in a unit that counts
+  abbrev Counts : CommandAdmission → Type 0
+  Counts (command.Refused a) = RanCounting M s c (refusal a) s
+  Counts (command.Ready t) =
+      (guardedBy (M .sized s) (M .ordered s) 0 ≡ 0) × Ranged (rawOf t)
+      × ((r : Outcome) (x : S) → Returns (judgedIn M s (rawOf t)) r x → RanCounting M s c r x)
+
+  pub counting-admitted : (order : Answer) → numberOf order ≡ guardedBy (M .sized s) (M .ordered s) 0
+      → (m : CommandAdmission) → m ≡ commandAdmission order c → Counts m
+  counting-admitted order e m h =
+      subst Counts (sym h)
+      (admits order (fits (argumentsOf c)) command.Refused (command.Ready (typedOf (argumentsOf c)))
+      (M .sized s) (M .ordered s) (table (M .facts s (argumentsOf c)) (argumentsOf c)) e Counts
+      (λ g w.
+      let n : answerOf M s c ≡ table (M .facts s (argumentsOf c)) (argumentsOf c) = guard-on (M .sized s) (M .ordered s) _ g ∙ rw w in
+      (g, ranged-command (argumentsOf c) w, λ r x j. (numbered (r .answer) _ (j .0 .0 ∙ sym n), j .1 ∙ sym (rw n), j .2 ∙ sym (rw n))))
+      (λ a n z. let q : eqb (numberOf a) 0 ≡ false = ne-eqb (numberOf a) 0 z in (numbered a _ n, rw (← n, q), rw (← n, q))))
+
+  -- and in one that counts nothing
   abbrev Admits : CommandAdmission → Type 0
   Admits (command.Refused a) = Ran M s c a s
   Admits (command.Ready t) =
       (guardedBy (M .sized s) (M .ordered s) 0 ≡ 0) × Ranged (rawOf t)
       × ((a : Answer) (x : S) → Judged M s (rawOf t) (numberOf a) x → Ran M s c a x)
 
+  without-count : (m : CommandAdmission) → Counts m → Admits m
+  without-count (command.Refused a) k = (k .0, k .2)
+  without-count (command.Ready t) k = (
+    k .0,
+    k .1,
+    λ a x j. let q = k .2 (record { answer = a; count = judgedIn M s (rawOf t) .count }) x (numbered a _ (j .0), refl, j .1) in (q .0, q .2),
+  )
+
   pub command-admitted : (order : Answer) → numberOf order ≡ guardedBy (M .sized s) (M .ordered s) 0
       → (m : CommandAdmission) → m ≡ commandAdmission order c → Admits m
-  command-admitted order e m h =
-      subst Admits (sym h)
-      (admits order (fits (argumentsOf c)) command.Refused (command.Ready (typedOf (argumentsOf c)))
-      (M .sized s) (M .ordered s) (table (M .facts s (argumentsOf c)) (argumentsOf c)) e Admits
-      (λ g w.
-      let n : answerOf M s c ≡ table (M .facts s (argumentsOf c)) (argumentsOf c) = guard-on (M .sized s) (M .ordered s) _ g ∙ rw w in
-      (g, ranged-command (argumentsOf c) w, λ a x j. (numbered a _ (j .0 ∙ sym n), j .1 ∙ sym (rw n))))
-      (λ a n z. (numbered a _ n, rw (← n, ne-eqb (numberOf a) 0 z))))
+  command-admitted order e m h = without-count m (counting-admitted order e m h)
 
 -- ---- a check, whatever its buffers
 module _ (sized ordered : Bool) (p o r : ℕ) where

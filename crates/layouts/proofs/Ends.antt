@@ -15,8 +15,8 @@ use Rattle.model.specs.declared.Checked.{Checked}
 use Rattle.model.specs.declared.Offered.the-variants as offered
 use Rattle.bits.specs.Sets.{all}
 use Rattle.model.specs.Commands.{argumentsOf, membersOf}
-use Rattle.layouts.specs.Machine.{Machine, answerOf, Judged, Ran, Offers}
-use Rattle.model.specs.Answers.{table, numberOf, answerFor, checkedNumber, checkedYes}
+use Rattle.layouts.specs.Machine.{Machine, answerOf, judgedIn, Judged, Ran, Offers}
+use Rattle.model.specs.Answers.{table, numberOf, answerFor, refusal, Returns, checkedNumber, checkedYes}
 use Rattle.layouts.specs.Layouts.{Layout, inOrder, guarded, factsOf, flatUnit, liveIn, held, checkNumber, checkYes, Checks, Inspects, Freshens, freshImage}
 use Rattle.layouts.specs.Subjects.{subjectsOf, Tells}
 use Rattle.model.proofs.Answers.{numbered, Known, number-for, table-known, answer-known, checked-number, checked-yes}
@@ -28,17 +28,30 @@ module _ {S : Type 0} (M : Machine S) (s : S) where
     pub judged-number : (f : Facts) (r : Answer) → r ≡ answerFor (table f a) → numberOf r ≡ table f a
     judged-number f r p = ap numberOf p ∙ number-for (table f a) (table-known f a)
 
+    -- where the table refuses: the state stays, and nothing is counted
+    pub counting-stops : (f : Facts) (r : Answer) (m : ℕ) → f ≡ M .facts s a → r ≡ answerFor (table f a) → m ≡ numberOf r → (m ≡ 0 → ⊥)
+        → Returns (judgedIn M s a) (refusal r) s
+    counting-stops f r m e p q h =
+        let t : numberOf r ≡ table (M .facts s a) a = judged-number f r p ∙ ap (λ g. table g a) e in
+        let n : eqb (numberOf r) 0 ≡ false = ne-eqb (numberOf r) 0 (λ z. h (q ∙ z)) in
+        (numbered r _ t, rw (← t, n), rw (← t, n))
+
+    -- where it does not: the command is done
+    pub counting-goes : (f : Facts) (r : Answer) (m k : ℕ) (x : S) → f ≡ M .facts s a → r ≡ answerFor (table f a) → m ≡ numberOf r
+        → m ≡ 0 → x ≡ M .after s a → k ≡ M .counts s a → Returns (judgedIn M s a) (record { answer = r; count = k }) x
+    counting-goes f r m k x e p q h u v =
+        let t : numberOf r ≡ table (M .facts s a) a = judged-number f r p ∙ ap (λ g. table g a) e in
+        let n : eqb (numberOf r) 0 ≡ true = eq-eqb (numberOf r) 0 (sym q ∙ h) in
+        (numbered r _ t, v ∙ sym (rw (← t, n)), u ∙ sym (rw (← t, n)))
+
+    -- the same of a unit that counts nothing
     pub judged-stops : (f : Facts) (r : Answer) (m : ℕ) → f ≡ M .facts s a → r ≡ answerFor (table f a) → m ≡ numberOf r → (m ≡ 0 → ⊥)
         → Judged M s a (numberOf r) s
-    judged-stops f r m e p q h =
-        let t : numberOf r ≡ table (M .facts s a) a = judged-number f r p ∙ ap (λ g. table g a) e in
-        (t, rw (← t, ne-eqb (numberOf r) 0 (λ z. h (q ∙ z))))
+    judged-stops f r m e p q h = let k = counting-stops f r m e p q h in (k .0 .0, k .2)
 
     pub judged-goes : (f : Facts) (r : Answer) (m : ℕ) (x : S) → f ≡ M .facts s a → r ≡ answerFor (table f a) → m ≡ numberOf r → m ≡ 0
         → x ≡ M .after s a → Judged M s a (numberOf r) x
-    judged-goes f r m x e p q h k =
-        let t : numberOf r ≡ table (M .facts s a) a = judged-number f r p ∙ ap (λ g. table g a) e in
-        (t, k ∙ sym (rw (← t, eq-eqb (numberOf r) 0 (sym q ∙ h))))
+    judged-goes f r m x e p q h u = let k = counting-goes f r m (M .counts s a) x e p q h u refl in (k .0 .0, k .2)
 
   module _ (c : Command) where
     -- a command that is offered

@@ -4,7 +4,7 @@ use mathlib.Core.Bool.{Bool, true, false, cond, false≢true}
 use borrow.Author.Tests.{eqb-true}
 use lib.Dec.{eqb}
 use Rattle.model.specs.declared.Command.{Command}
-use Rattle.model.specs.declared.Command.the-variants.{Create, Delete, Allow, Withdraw, Lend, Recall, Shift, AllowSet, Drop}
+use Rattle.model.specs.declared.Command.the-variants.{Create, Delete, Allow, Withdraw, Lend, Recall, Shift, AllowSet, Drop, Sweep}
 use Rattle.model.specs.Commands.{argumentsOf}
 use Rattle.model.specs.Answers.{flat}
 use Rattle.layouts.specs.Machine.{stepOf}
@@ -31,6 +31,7 @@ module _ (L : Layout) (W : Laws L) where
   after-of j v (Lend by to on right depth last) h e = absurd (false≢true h)
   after-of j v (Recall by to on right depth last) h e = absurd (false≢true h)
   after-of j v (Shift by now) h e = absurd (false≢true h)
+  after-of j v (Sweep by) h e = absurd (false≢true h)
   after-of j v (AllowSet by set on right depth) h e = allowed-set-of L W j v by set on right depth
 
   pub step-of : (j : Journal) → Inv j → (c : Command) → flat c ≡ true → stepOf (flatUnit L) (imageOf L j) c ≡ imageOf L (step j c)

@@ -162,9 +162,16 @@ module _ (L : Layout) where
   abbrev pub after : List ℕ → Arguments → List ℕ
   after s a = edited s a (a .edit)
 
-  -- a unit of this layout: lists, rows
+  -- a unit of this layout: lists, rows; none of their commands counts anything
   abbrev pub flatUnit : Machine (List ℕ)
-  flatUnit = record { has = flat; sized = λ s. eqb (length s) (L .cells); ordered = inOrder; facts = factsOf; after = after }
+  flatUnit = record {
+    has = flat;
+    sized = λ s. eqb (length s) (L .cells);
+    ordered = inOrder;
+    facts = factsOf;
+    after = after;
+    counts = λ s a. 0;
+  }
 
   -- answer r and image x of a look at the image alone, which knows 1 and 2
   abbrev pub Inspects : List ℕ → Answer → List ℕ → Type 0

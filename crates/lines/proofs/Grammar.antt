@@ -33,7 +33,7 @@ reads-only s = rw (only-reads s (verbAt s) (only-told s)) (from (valuesBy (formO
         let i = seen (formOf (verbAt s) .pattern) s 0 [] vs e in
         inr record {
           verb = verbAt s;
-          known = verb-fits ((getD s 5 0 + getD s 9 0) % 32);
+          known = verb-fits ((getD s 5 0 + getD s 9 0) % 64);
           values = vs;
           line = i .text ∙ ap (written (formOf (verbAt s) .pattern)) (sym (i .whole));
           many = ap length (i .whole) ∙ i .many;

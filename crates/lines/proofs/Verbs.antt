@@ -56,12 +56,12 @@ unfolding begins
 verb-begins v ws h = starts-written (bytes "do=") (formOf v .pattern) ws (below (length forms) begins all-begin v h)
 
 -- ---- bytes 5 and 9 of a line tell its verb
--- the verb by a number below 32, as the code has it: @ for the first, a for the next
+-- the verb by a number below 64, as the code has it: @ for the first, a for the next
 abbrev pub verbs : List ℕ
-verbs = bytes "@@@g@@@fe@@ha@b@@c@@@d@@@@@@i@@@"
+verbs = bytes "@@@g@@@i@@@ha@b@@c@@@d@@@@@@j@@@@@@@@@@fe@@@@@@@@@@@@@@@@@@@@@@@"
 
 abbrev pub verbAt : List ℕ → ℕ
-verbAt s = getD verbs ((getD s 5 0 + getD s 9 0) % 32) 0 % 32
+verbAt s = getD verbs ((getD s 5 0 + getD s 9 0) % 64) 0 % 32
 
 pub verb-fits : (i : ℕ) → getD verbs i 0 % 32 < length forms
 unfolding all

@@ -7,7 +7,7 @@ use Prim.Native.String.{String}
 use Prim.Native.Nat.{ℕ, zero, suc, _^_, _<_}
 use lib.ListN.{length, getD}
 use lib.Dec.{eqb, leb, ltb}
-use Rattle.model.specs.declared.Command.the-variants.{Create, Delete, Allow, AllowSet, Withdraw, Drop, Lend, Recall, Shift}
+use Rattle.model.specs.declared.Command.the-variants.{Create, Delete, Allow, AllowSet, Withdraw, Drop, Lend, Recall, Shift, Sweep}
 use Rattle.lines.specs.declared.Parsed.{Parsed}
 use Rattle.lines.specs.declared.Parsed.the-variants.{Run, Ask, Malformed}
 use Rattle.lines.specs.Bytes.{bytes}
@@ -50,8 +50,8 @@ form t f = record { pattern = parts (bytes t); asks = f }
 
 -- 'A line is key=value fields in fixed order, one space between': '`do` (create, delete, allow, withdraw, lend, recall, check), then the
 -- fields in the order of the journal section; check has who, on, right'; 'lend and recall gain `last` at the end', '`do=shift by now`',
--- '`allowset` takes by, set .., on, right, depth', and 'withdraw is split: `drop` (by, to, on, right, depth)'. A verb is a place in this
--- list
+-- '`allowset` takes by, set .., on, right, depth', 'withdraw is split: `drop` (by, to, on, right, depth)', and '`do=sweep by`'. A verb is a
+-- place in this list
 abbrev pub forms : List Form
 forms =
     form "do=create by=# on=#" (λ by on. Run (Create by on)) ∷
@@ -63,6 +63,7 @@ forms =
     form "do=lend by=# to=# on=# right=# depth=# last=#" (λ by to on right depth last. Run (Lend by to on right depth last)) ∷
     form "do=recall by=# to=# on=# right=# depth=# last=#" (λ by to on right depth last. Run (Recall by to on right depth last)) ∷
     form "do=shift by=# now=#" (λ by now. Run (Shift by now)) ∷
+    form "do=sweep by=#" (λ by. Run (Sweep by)) ∷
     form "do=check who=# on=# right=#" (λ who on right. Ask who on right) ∷
     []
 

@@ -237,7 +237,8 @@ fn read_by(values: &mut [u64; MOST], s: &[u8], verb: usize) -> bool
         6 => fill(values, s, b"lend", b"btordl"),
         7 => fill(values, s, b"recall", b"btordl"),
         8 => fill(values, s, b"shift", b"bn"),
-        9 => fill(values, s, b"check", b"wor"),
+        9 => fill(values, s, b"sweep", b"b"),
+        10 => fill(values, s, b"check", b"wor"),
         _ => false,
     }
 }
@@ -348,13 +349,14 @@ fn meaning_of(verb: usize, values: &[u64; MOST]) -> Parsed
         6 => lend(a, b, c, d, e, f),
         7 => recall(a, b, c, d, e, f),
         8 => Parsed::Run(Command::Shift { by: a, now: b }),
-        9 => ask(a, b, c),
+        9 => Parsed::Run(Command::Sweep { by: a }),
+        10 => ask(a, b, c),
         _ => Parsed::Malformed,
     }
 }
 
 // A verb for each number that two bytes of its line give: @ is the first of the grammar's list, a the next.
-const VERBS: [u8; 32] = *b"@@@g@@@fe@@ha@b@@c@@@d@@@@@@i@@@";
+const VERBS: [u8; 64] = *b"@@@g@@@i@@@ha@b@@c@@@d@@@@@@j@@@@@@@@@@fe@@@@@@@@@@@@@@@@@@@@@@@";
 
 // The byte at a place, and 0 past the end.
 fn byte(s: &[u8], at: usize) -> u8
@@ -372,7 +374,7 @@ fn verb_at(s: &[u8]) -> usize
 {
     let a = byte(s, 5) as usize;
     let b = byte(s, 9) as usize;
-    let h = (a + b) % 32;
+    let h = (a + b) % 64;
     (VERBS[h] % 32) as usize
 }
 

@@ -6,7 +6,7 @@ use Prim.Native.Nat.{ℕ, _-_}
 use lib.ListN.{length, getD}
 use lib.Dec.{eqb}
 use Rattle.bits.specs.Sets.{keep}
-use Rattle.delegation.specs.Loans.{lender, loanItem, loanRight, borrower, wordNames, wordFrom, rising, loanWords, headerIn, used, loansImage}
+use Rattle.delegation.specs.Loans.{lender, loanItem, loanRight, borrower, wordNames, wordFrom, wordPast, rising, loanWords, headerIn, used, loansImage}
 use Rattle.loans.specs.declared.Rule.{Rule}
 use Rattle.loans.specs.declared.Rule.the-variants as rule
 use Rattle.loans.specs.declared.order.Dead.{Dead}
@@ -32,6 +32,8 @@ abbrev pub keepsOf : Rule → ℕ → Bool
 keepsOf (rule.Naming i) w = not (wordNames (i .0) w)
 -- those that the person did not make on that item, of that right
 keepsOf (rule.From p o r) w = not (wordFrom (p .0) (o .0) (r .0) w)
+-- those that are not past their last shift
+keepsOf (rule.Past now) w = not (wordPast (now .0) w)
 
 -- how many loans a pass by the rule ends; none where the slice is no loans image by its length
 abbrev pub endedBy : Rule → List ℕ → ℕ

@@ -12,7 +12,7 @@ use lib.ListN.{length}
 use lib.Dec.{eqb, leb, ltb}
 use Rattle.bits.specs.Sets.{any, all}
 use Rattle.model.specs.declared.Command.{Command}
-use Rattle.model.specs.declared.Command.the-variants.{Create, Delete, Allow, Withdraw, Lend, Recall, Shift, AllowSet, Drop}
+use Rattle.model.specs.declared.Command.the-variants.{Create, Delete, Allow, Withdraw, Lend, Recall, Shift, AllowSet, Drop, Sweep}
 use Rattle.model.specs.declared.Facts.{Facts}
 use Rattle.model.specs.declared.Arguments.{Arguments}
 use Rattle.model.specs.Commands.{rightDepth, argumentsOf, fits, membersOf, isEmpty}
@@ -195,6 +195,7 @@ answered-table j (Lend by to on right depth last) = refl
 answered-table j (Recall by to on right depth last) = refl
 answered-table j (Shift by now) = refl
 answered-table j (Drop by to on right depth) = refl
+answered-table j (Sweep by) = refl
 answered-table j (AllowSet by set on right depth) =
     by-cases (isEmpty set) (λ h. rw h)
     (λ h. by-cases (fits (argumentsOf (AllowSet by set on right depth)))

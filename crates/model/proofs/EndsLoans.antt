@@ -10,9 +10,9 @@ use borrow.Author.Tests.{eqb-true, eq-eqb}
 use lib.Dec.{eqb, leb}
 use Rattle.bits.specs.Sets.{any, keep}
 use Rattle.model.specs.declared.Command.{Command}
-use Rattle.model.specs.declared.Command.the-variants.{Create, Delete, Allow, Withdraw, Lend, Recall, Shift, AllowSet, Drop}
+use Rattle.model.specs.declared.Command.the-variants.{Create, Delete, Allow, Withdraw, Lend, Recall, Shift, AllowSet, Drop, Sweep}
 use Rattle.model.specs.Commands.{depths, membersOf}
-use Rattle.model.specs.Journal.{Grant, Loan, Journal, grant, loan, sameGrant, sameLoan, isTo, isFrom, loanNames, lives, hasGrant, standing, standingLoan, LoanCarries, answered, lessGrant, lastEnds, dropped, droppedAll, ofEachDepth, apply, step, lendsFrom}
+use Rattle.model.specs.Journal.{Grant, Loan, Journal, grant, loan, sameGrant, sameLoan, isTo, isFrom, loanNames, isPast, lives, hasGrant, standing, standingLoan, LoanCarries, answered, lessGrant, lastEnds, dropped, droppedAll, ofEachDepth, apply, step, lendsFrom}
 use Rattle.model.specs.Journal as journal
 use Rattle.model.specs.Chain.{granted, lent, JournalChain}
 use Rattle.model.specs.AllowSet.{finally}
@@ -52,7 +52,7 @@ holding-is j v p o r =
 
 -- ---- what stands of a loan
 -- where loans were kept by a test
-kept-loan : (f : Loan → Bool) (l : Loan) (ls : List Loan) → any (sameLoan l) (keep f ls) ≡ any (sameLoan l) ls && f l
+pub kept-loan : (f : Loan → Bool) (l : Loan) (ls : List Loan) → any (sameLoan l) (keep f ls) ≡ any (sameLoan l) ls && f l
 kept-loan f l ls =
     any-kept (sameLoan l) f (λ m. true) (f l) ls (all-true ls) (λ m k e. ap f (sym (same-loan l m e)))
 
@@ -70,6 +70,7 @@ module _ (p o r : ℕ) where
   none-apply j (Recall by to on right depth last) h n =
       any-less (isFrom p o r) (λ l. not (sameLoan (loan by on right to depth last) l)) (j .loans) n
   none-apply j (Shift by now) h n = n
+  none-apply j (Sweep by) h n = any-less (isFrom p o r) (λ l. not (isPast (j .shift) (l .last))) (j .loans) n
   none-apply j (AllowSet by set on right depth) h n =
       ap (any (isFrom p o r)) (loans-granted (map (λ i. grant i on right depth) (membersOf set)) j) ∙ n
 

@@ -6,14 +6,14 @@ use mathlib.Core.List.{List, [], _∷_, map}
 use Prim.Native.Nat.{ℕ, suc, _≤_, _<_}
 use native.Mathlib.Omega.{arith}
 use native.Mathlib.Nat.{le-refl}
-use borrow.Author.Tests.{eqb-true, eqb-false, ne-eqb, leb-false, le-leb, lt-leb, ltb-false}
+use borrow.Author.Tests.{eqb-true, eqb-false, eq-eqb, ne-eqb, leb-false, le-leb, lt-leb, ltb-true, ltb-false, lt-ltb}
 use lib.Dec.{eqb, leb, ltb}
 use Rattle.bits.specs.Sets.{any, all}
 use Rattle.model.specs.declared.Command.{Command}
-use Rattle.model.specs.declared.Command.the-variants.{Create, Delete, Allow, Withdraw, Lend, Recall, Shift, AllowSet, Drop}
+use Rattle.model.specs.declared.Command.the-variants.{Create, Delete, Allow, Withdraw, Lend, Recall, Shift, AllowSet, Drop, Sweep}
 use Rattle.model.specs.Commands.{argumentsOf, membersOf}
-use Rattle.model.specs.Journal.{Loan, Journal, grant, ofEachDepth, loan, sameLoan, loanNames, carries, isDated, standingLoan, facts, answered, fresh, apply, step, run, Throughout, isPlain}
-use Rattle.bits.proofs.Sets.{by-cases, fst, snd, or-right, any-same, any-add, any-less}
+use Rattle.model.specs.Journal.{Loan, Journal, grant, ofEachDepth, loan, sameLoan, loanNames, carries, isPast, isDated, standingLoan, facts, answered, fresh, apply, step, run, Throughout, isPlain}
+use Rattle.bits.proofs.Sets.{by-cases, fst, snd, both, or-right, any-same, any-add, any-less}
 use Rattle.model.proofs.AllowSet.{loans-granted, shift-granted}
 use Rattle.model.proofs.Drop.{none-dropped}
 use Rattle.model.proofs.Invariant.{accepted, neither, same-loan}
@@ -34,16 +34,35 @@ pub next-past : (n : ℕ) → 0 < n → carries (suc n) n ≡ false
 unfolding carries
 next-past n h = rw (ne-eqb n 0 (λ (z : n ≡ 0). omega arith), lt-leb (suc n) n (omega arith))
 
+-- a last shift that is set and below the present one is past
+carries-past : (now last : ℕ) → (last ≡ 0 → ⊥) → last < now → carries now last ≡ false
+unfolding carries
+carries-past now last z l = rw (ne-eqb last 0 z, lt-leb now last l)
+
 -- past its last shift: that is set, and below the present one
 pub past-last : (now last : ℕ) → carries now last ≡ false → (last ≡ 0 → ⊥) × (last < now)
 unfolding carries
 past-last now last h = let k = neither (eqb last 0) (leb now last) (ap not h) in (eqb-false last 0 (k .0), leb-false now last (k .1))
 
+-- and only then
+pub past-is : (now last : ℕ) → isPast now last ≡ not (eqb last 0) && ltb last now
+past-is now last =
+    by-cases (carries now last)
+    (λ t. rw t (sym (by-cases (not (eqb last 0) && ltb last now)
+    (λ h. let n : not (eqb last 0) ≡ true = fst (not (eqb last 0)) (ltb last now) h in
+    let z : (last ≡ 0 → ⊥) = λ e. false≢true (sym (ap not (eq-eqb last 0 e)) ∙ n) in
+    let l : last < now = ltb-true last now (snd (not (eqb last 0)) (ltb last now) h) in
+    absurd (false≢true (sym (carries-past now last z l) ∙ t))) (λ h. h))))
+    (λ f. let k = past-last now last f in rw f (sym (both (ap not (ne-eqb last 0 (k .0))) (lt-ltb last now (k .1)))))
+
 -- what is past is past at every later shift
 pub later-past : (now later last : ℕ) → now ≤ later → carries now last ≡ false → carries later last ≡ false
-unfolding carries
-later-past now later last l h =
-    let k = past-last now last h in rw (ne-eqb last 0 (k .0), lt-leb later last (omega (arith, k .1)))
+later-past now later last l h = let k = past-last now last h in carries-past later last (k .0) (omega (arith, k .1))
+
+-- so what carries at a later shift carries now
+pub earlier-carries : (now later last : ℕ) → now ≤ later → carries later last ≡ true → carries now last ≡ true
+earlier-carries now later last l h =
+    by-cases (carries now last) (λ t. t) (λ f. absurd (false≢true (sym (later-past now later last l f) ∙ h)))
 
 -- ---- the shift never falls while a loan with a last shift stands
 shift-apply : (j : Journal) (c : Command) → any isDated (j .loans) ≡ true → answered j c ≡ 0 → j .shift ≤ apply j c .shift
@@ -54,6 +73,7 @@ shift-apply j (Withdraw by to on right) d e = le-refl (j .shift)
 shift-apply j (Drop by to on right depth) d e = le-refl (j .shift)
 shift-apply j (Lend by to on right depth last) d e = le-refl (j .shift)
 shift-apply j (Recall by to on right depth last) d e = le-refl (j .shift)
+shift-apply j (Sweep by) d e = le-refl (j .shift)
 shift-apply j (Shift by now) d e =
     let k = accepted (facts j (argumentsOf (Shift by now))) (argumentsOf (Shift by now)) e in
     ltb-false now (j .shift) (unless (ltb now (j .shift)) (any isDated (j .loans)) d (k .back))
@@ -106,6 +126,8 @@ plain-apply j (Lend by to on right depth last) h u =
 plain-apply j (Recall by to on right depth last) h u =
     record { shift = u .shift; loans = any-less isDated (λ l. not (sameLoan (loan by on right to depth last) l)) (j .loans) (u .loans) }
 plain-apply j (Shift by now) h u = absurd (false≢true h)
+plain-apply j (Sweep by) h u =
+    record { shift = u .shift; loans = any-less isDated (λ l. not (isPast (j .shift) (l .last))) (j .loans) (u .loans) }
 plain-apply j (AllowSet by set on right depth) h u =
     let gs = map (λ i. grant i on right depth) (membersOf set) in
     record { shift = shift-granted gs j ∙ u .shift; loans = ap (any isDated) (loans-granted gs j) ∙ u .loans }

@@ -7,11 +7,11 @@ use Prim.Native.Nat.{ℕ}
 use borrow.Author.Tests.{eqb-true, eq-eqb}
 use lib.Dec.{eqb, leb}
 use Rattle.model.specs.declared.Command.{Command}
-use Rattle.model.specs.declared.Command.the-variants.{Create, Delete, Allow, Withdraw, Lend, Recall, Shift, AllowSet, Drop}
+use Rattle.model.specs.declared.Command.the-variants.{Create, Delete, Allow, Withdraw, Lend, Recall, Shift, AllowSet, Drop, Sweep}
 use Rattle.bits.specs.Sets.{any, all, keep, add}
-use Rattle.model.specs.Commands.{items, rightDepth, argumentsOf, fits, membersOf}
+use Rattle.model.specs.Commands.{items, rightDepth, argumentsOf, isSweep, fits, membersOf}
 use Rattle.model.specs.Answers.{flat}
-use Rattle.model.specs.Journal.{Grant, Journal, grant, grantedAll, lessGrant, droppedAll, ofEachDepth, loan, sameGrant, sameLoan, names, loanNames, lives, facts, answered, fresh, apply, step, run, isDrop}
+use Rattle.model.specs.Journal.{Grant, Loan, Journal, grant, grantedAll, lessGrant, droppedAll, ofEachDepth, loan, sameGrant, sameLoan, names, loanNames, isPast, lives, facts, answered, fresh, apply, step, run, isDrop}
 use Rattle.bits.proofs.Sets.{fst, snd, both, or-left, or-right, all-mono, all-keep, all-add}
 use Rattle.model.proofs.Answers.{LoanFree}
 use Rattle.model.proofs.Commands.{ranged-command}
@@ -78,6 +78,7 @@ inv-apply j (Drop by to on right depth) v e = ended-inv j (grant to on right dep
 inv-apply j (Lend by to on right depth last) v e = record { root = v .root; grants-sound = v .grants-sound }
 inv-apply j (Recall by to on right depth last) v e = record { root = v .root; grants-sound = v .grants-sound }
 inv-apply j (Shift by now) v e = record { root = v .root; grants-sound = v .grants-sound }
+inv-apply j (Sweep by) v e = record { root = v .root; grants-sound = v .grants-sound }
 inv-apply j (AllowSet by set on right depth) v e =
     let gs = map (λ i. grant i on right depth) (membersOf set) in
     let up : (i : ℕ) → lives (grantedAll j gs) i ≡ lives j i = λ i. ap (any (eqb i)) (live-granted gs j) in
@@ -100,6 +101,18 @@ inv-step j c v = go (eqb (answered j c) 0) refl
     go false e = v
 
 -- ---- and of its loans
+-- where only some of them are kept
+fewer-loans : (j : Journal) (q : Loan → Bool) → LoanInv j
+    → LoanInv (record { live = j .live; grants = j .grants; loans = keep q (j .loans); shift = j .shift })
+fewer-loans j q v =
+    let k = keep-loans j q v in
+    record {
+      loans-sound = all-mono _ (soundLoan (lives j)) _ (k .0) (λ l h. fst (soundLoan (lives j) l) (q l) h);
+      loans-distinct = k .1;
+      loans-few = k .2;
+      shift-in = v .shift-in;
+    }
+
 loans-apply : (j : Journal) (c : Command) → LoanInv j → answered j c ≡ 0 → LoanInv (apply j c)
 loans-apply j (Create by on) v e = record {
   loans-sound =
@@ -155,16 +168,8 @@ loans-apply j (Lend by to on right depth last) v e =
       loans-few = few-add (loan by on right to depth last) (j .loans) (v .loans-few) (k .full);
       shift-in = v .shift-in;
     }
-loans-apply j (Recall by to on right depth last) v e =
-    let k = keep-loans j (λ l. not (sameLoan (loan by on right to depth last) l)) v in
-    record {
-      loans-sound =
-          all-mono _ (soundLoan (lives j)) _ (k .0)
-          (λ l h. fst (soundLoan (lives j) l) (not (sameLoan (loan by on right to depth last) l)) h);
-      loans-distinct = k .1;
-      loans-few = k .2;
-      shift-in = v .shift-in;
-    }
+loans-apply j (Recall by to on right depth last) v e = fewer-loans j (λ l. not (sameLoan (loan by on right to depth last) l)) v
+loans-apply j (Sweep by) v e = fewer-loans j (λ l. not (isPast (j .shift) (l .last))) v
 loans-apply j (Shift by now) v e =
     let k = accepted (facts j (argumentsOf (Shift by now))) (argumentsOf (Shift by now)) e in
     record {
@@ -203,6 +208,20 @@ flat-lends (Recall by to on right depth last) h = record { back = refl; past = r
 flat-lends (Shift by now) h = absurd (false≢true h)
 flat-lends (AllowSet by set on right depth) h = record { back = refl; past = refl; full = refl }
 flat-lends (Drop by to on right depth) h = absurd (false≢true h)
+flat-lends (Sweep by) h = absurd (false≢true h)
+
+-- they lack sweep too
+pub sweep-passed : (c : Command) → isSweep c ≡ true → flat c ≡ false
+sweep-passed (Create by on) h = absurd (false≢true h)
+sweep-passed (Delete by on) h = absurd (false≢true h)
+sweep-passed (Allow by to on right depth) h = absurd (false≢true h)
+sweep-passed (Withdraw by to on right) h = absurd (false≢true h)
+sweep-passed (Lend by to on right depth last) h = refl
+sweep-passed (Recall by to on right depth last) h = refl
+sweep-passed (Shift by now) h = refl
+sweep-passed (AllowSet by set on right depth) h = absurd (false≢true h)
+sweep-passed (Drop by to on right depth) h = refl
+sweep-passed (Sweep by) h = refl
 
 -- the same grants added to both
 alike-granted : (gs : List Grant) {j k : Journal} → Alike j k → Alike (grantedAll j gs) (grantedAll k gs)
@@ -224,5 +243,6 @@ alike-apply a (Withdraw by to on right) h = alike-dropped (ofEachDepth to on rig
 alike-apply a (Lend by to on right depth last) h = record { live = a .live; grants = a .grants }
 alike-apply a (Recall by to on right depth last) h = record { live = a .live; grants = a .grants }
 alike-apply a (Shift by now) h = record { live = a .live; grants = a .grants }
+alike-apply a (Sweep by) h = record { live = a .live; grants = a .grants }
 alike-apply a (AllowSet by set on right depth) h = alike-granted (map (λ i. grant i on right depth) (membersOf set)) a
 alike-apply a (Drop by to on right depth) h = absurd (false≢true (sym h))

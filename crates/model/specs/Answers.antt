@@ -16,6 +16,7 @@ use Rattle.model.specs.declared.ChainChecked.{ChainChecked}
 use Rattle.model.specs.declared.ChainChecked.the-variants as chain
 use Rattle.model.specs.declared.Answer.{Answer}
 use Rattle.model.specs.declared.Answer.the-variants as is
+use Rattle.model.specs.declared.Outcome.{Outcome}
 use Rattle.model.specs.Commands.{argumentsOf, fits, items, rightDepth, isEmpty}
 
 -- n when the test holds, else m: a row of the table, then the rows below it
@@ -70,6 +71,26 @@ answerFor n =
 -- r is that answer, and n its number
 abbrev pub Numbered : Answer → ℕ → Type 0
 Numbered r n = (numberOf r ≡ n) × (r ≡ answerFor n)
+
+-- ---- a command: its result
+-- what a command comes to in some state: its number, a count, and the state that it leaves
+pub record Result (S : Type 0) : Type 0 where
+  pub number : ℕ
+  pub count : ℕ
+  pub state : S
+
+-- 'Where this or any later call is refused, whatever else it returns is 0 and every lent byte is unchanged': the result with number n of a
+-- command in state s that, where it is accepted, counts k and leaves x
+abbrev pub resultOf : {S : Type 0} → S → ℕ → ℕ → S → Result S
+resultOf s n k x = record { number = n; count = cond (eqb n 0) k 0; state = cond (eqb n 0) x s }
+
+-- the outcome of a refused command with this answer
+abbrev pub refusal : Answer → Outcome
+refusal a = record { answer = a; count = 0 }
+
+-- outcome r and state x are that result
+abbrev pub Returns : {S : Type 0} → Result S → Outcome → S → Type 0
+Returns q r x = Numbered (r .answer) (q .number) × (r .count ≡ q .count) × (x ≡ q .state)
 
 -- ---- a check: its number
 abbrev pub checkedNumber : Checked → ℕ
@@ -131,6 +152,8 @@ knows verb.Shift n = eqb n 8 || eqb n 12
 knows verb.AllowSet n = eqb n 14 || eqb n 5 || eqb n 8
 -- 'drop has withdraw's refusals'
 knows verb.Drop n = eqb n 5 || eqb n 8
+-- '`do=sweep by` (numbers 1 to 4)'
+knows verb.Sweep n = false
 
 -- 'Each has the first four commands', and of allowset 'all units .. have it': lists and rows are called for what changes every image alike
 abbrev pub flatEdit : Edit → Bool

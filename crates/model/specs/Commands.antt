@@ -1,14 +1,14 @@
 -- Items, rights, depths, shifts and sets of items: the limits of documents 01 and 02, and the arguments of a command, raw and within
 -- their limits.
 -- The commands are the enum `Command` of src/; its numbers are any numbers here.
-use mathlib.Core.Bool.{Bool, _&&_, cond}
+use mathlib.Core.Bool.{Bool, true, false, _&&_, cond}
 use mathlib.Core.List.{List, [], _∷_}
 use Prim.Native.Nat.{ℕ, _≤_}
 use lib.Dec.{eqb, leb}
 use lib.ListN.{length}
 use Rattle.bits.specs.Bits.{members}
 use Rattle.model.specs.declared.Command.{Command}
-use Rattle.model.specs.declared.Command.the-variants.{Create, Delete, Allow, Withdraw, Lend, Recall, Shift, AllowSet, Drop}
+use Rattle.model.specs.declared.Command.the-variants.{Create, Delete, Allow, Withdraw, Lend, Recall, Shift, AllowSet, Drop, Sweep}
 use Rattle.model.specs.declared.Verb.{Verb}
 use Rattle.model.specs.declared.Verb.the-variants as verb
 use Rattle.model.specs.declared.Edit.{Edit}
@@ -48,6 +48,25 @@ argumentsOf (Shift by now) = arguments verb.Shift edit.Nothing by 0 0 0 0 now 0
 argumentsOf (AllowSet by set on right depth) = arguments verb.AllowSet edit.AllowSet by on on right depth 0 set
 -- '`drop` (by, to, on, right, depth)': a depth of the grants of a chain unit, which lists and rows do not have
 argumentsOf (Drop by to on right depth) = arguments verb.Drop edit.Nothing by to on right depth 0 0
+-- '`do=sweep by`': it names no other item
+argumentsOf (Sweep by) = arguments verb.Sweep edit.Nothing by 0 0 0 0 0 0
+
+-- sweep 'returns how many there were': the one command that counts
+abbrev pub sweeps : Verb → Bool
+sweeps verb.Create = false
+sweeps verb.Delete = false
+sweeps verb.Allow = false
+sweeps verb.Withdraw = false
+sweeps verb.Lend = false
+sweeps verb.Recall = false
+sweeps verb.Shift = false
+sweeps verb.AllowSet = false
+sweeps verb.Drop = false
+sweeps verb.Sweep = true
+
+-- a command of that verb
+abbrev pub isSweep : Command → Bool
+isSweep c = sweeps (argumentsOf c .verb)
 
 -- 'a 64-bit number, .. bit i for item i': the members of a set, rising
 abbrev pub membersOf : ℕ → List ℕ

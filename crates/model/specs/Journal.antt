@@ -8,12 +8,12 @@ use Prim.Native.Nat.{ℕ, min}
 use lib.ListN.{length}
 use lib.Dec.{eqb, leb, ltb}
 use Rattle.model.specs.declared.Command.{Command}
-use Rattle.model.specs.declared.Command.the-variants.{Create, Delete, Allow, Withdraw, Lend, Recall, Shift, AllowSet, Drop}
+use Rattle.model.specs.declared.Command.the-variants.{Create, Delete, Allow, Withdraw, Lend, Recall, Shift, AllowSet, Drop, Sweep}
 use Rattle.model.specs.declared.Arguments.{Arguments}
 use Rattle.model.specs.declared.Facts.{Facts}
-use Rattle.bits.specs.Sets.{any, all, keep, add}
-use Rattle.model.specs.Commands.{argumentsOf, fits, membersOf, isEmpty, depths, mostLoans}
-use Rattle.model.specs.Answers.{answer, _when_else_}
+use Rattle.bits.specs.Sets.{any, all, keep, add, count}
+use Rattle.model.specs.Commands.{argumentsOf, isSweep, fits, membersOf, isEmpty, depths, mostLoans}
+use Rattle.model.specs.Answers.{Result, resultOf, answer, _when_else_}
 
 -- 'a set of grants (person, item, right, depth)'
 pub record Grant : Type 0 where
@@ -77,6 +77,10 @@ loanNames i l = eqb (l .lender) i || eqb (l .item) i || eqb (l .borrower) i
 unfoldable pub carries : ℕ → ℕ → Bool
 carries now last = eqb last 0 || leb now last
 
+-- 'past their last shift': at shift now a loan with that last shift does not carry
+abbrev pub isPast : ℕ → ℕ → Bool
+isPast now last = not (carries now last)
+
 -- 'a loan with a last shift', past it or not
 abbrev pub isDated : Loan → Bool
 isDated l = not (eqb (l .last) 0)
@@ -115,7 +119,7 @@ facts j a = record {
   members = all (lives j) (membersOf (a .set));
   edits = hasGrant j (a .by) (a .on) 0;
   back = ltb (a .shift) (j .shift) && any isDated (j .loans);
-  past = not (carries (j .shift) (a .shift));
+  past = isPast (j .shift) (a .shift);
   full = leb mostLoans (length (j .loans)) && not (standingLoan j (loanIn a));
 }
 
@@ -143,6 +147,7 @@ answered j (Lend by to on right depth last) = tabled j (Lend by to on right dept
 answered j (Recall by to on right depth last) = tabled j (Recall by to on right depth last)
 answered j (Shift by now) = tabled j (Shift by now)
 answered j (Drop by to on right depth) = tabled j (Drop by to on right depth)
+answered j (Sweep by) = tabled j (Sweep by)
 answered j (AllowSet by set on right depth) =
     3 when not (fits (argumentsOf (AllowSet by set on right depth))) else
     14 when isEmpty set else
@@ -228,10 +233,30 @@ apply j (Shift by now) = record { live = j .live; grants = j .grants; loans = j 
 apply j (AllowSet by set on right depth) = grantedAll j (map (λ to. grant to on right depth) (membersOf set))
 -- '`drop` .. ends one grant'
 apply j (Drop by to on right depth) = dropped j (grant to on right depth)
+-- sweep 'ends all loans past their last shift'
+apply j (Sweep by) =
+    record {
+      live = j .live;
+      grants = j .grants;
+      loans = keep (λ l. not (isPast (j .shift) (l .last))) (j .loans);
+      shift = j .shift;
+    }
 
--- 'a refused command changes nothing in it'
+-- what an accepted command counts: sweep 'returns how many there were', and no other counts anything
+abbrev pub counts : Journal → Command → ℕ
+counts j c = cond (isSweep c) (count (λ (l : Loan). isPast (j .shift) (l .last)) (j .loans)) 0
+
+-- what a command comes to
+abbrev pub result : Journal → Command → Result Journal
+result j c = resultOf j (answered j c) (counts j c) (apply j c)
+
+-- the journal after a command: 'a refused command changes nothing in it'
 abbrev pub step : Journal → Command → Journal
-step j c = cond (eqb (answered j c) 0) (apply j c) j
+step j c = result j c .state
+
+-- and its count
+abbrev pub counted : Journal → Command → ℕ
+counted j c = result j c .count
 
 -- the journal after a list of commands
 abbrev pub run : Journal → List Command → Journal
@@ -254,6 +279,7 @@ isPlain (Recall by to on right depth last) = eqb last 0
 isPlain (Shift by now) = false
 isPlain (AllowSet by set on right depth) = true
 isPlain (Drop by to on right depth) = true
+isPlain (Sweep by) = true
 
 -- a lend by p on o, right r
 abbrev pub lendsFrom : ℕ → ℕ → ℕ → Command → Bool
@@ -266,6 +292,7 @@ lendsFrom p o r (Recall by to on right depth last) = false
 lendsFrom p o r (Shift by now) = false
 lendsFrom p o r (AllowSet by set on right depth) = false
 lendsFrom p o r (Drop by to on right depth) = false
+lendsFrom p o r (Sweep by) = false
 
 -- a drop: 'Lists and rows pass it over and are held to the journal only on lists without drop'
 abbrev pub isDrop : Command → Bool
@@ -278,3 +305,4 @@ isDrop (Recall by to on right depth last) = false
 isDrop (Shift by now) = false
 isDrop (AllowSet by set on right depth) = false
 isDrop (Drop by to on right depth) = true
+isDrop (Sweep by) = false

@@ -1,7 +1,7 @@
 // Items, rights, depths, shifts and sets of items, the commands that carry them, and the one table of refusals.
 ghost use mathlib.Core.Path.{_≡_};
-ghost use Rattle.model.specs.Commands.{items, rightDepth, shifts, arguments, argumentsOf, isEmpty, fits, typedOf, withinOf, rawOf, questionOf, itemOf, rightOf, depthOf, shiftOf};
-ghost use Rattle.model.specs.Answers.{numberOf, answerFor, checkedOf, flatEdit, flat, knows, table, _when_else_};
+ghost use Rattle.model.specs.Commands.{items, rightDepth, shifts, arguments, argumentsOf, sweeps, isSweep, isEmpty, fits, typedOf, withinOf, rawOf, questionOf, itemOf, rightOf, depthOf, shiftOf};
+ghost use Rattle.model.specs.Answers.{numberOf, answerFor, refusal, checkedOf, flatEdit, flat, knows, table, _when_else_};
 
 // An item number, 0 to 63.
 pub struct Item(u32);
@@ -228,6 +228,9 @@ pub enum Command {
         right: u32,
         depth: u32,
     },
+    Sweep {
+        by: u32,
+    },
 }
 
 // What a command says to do.
@@ -241,6 +244,7 @@ pub enum Verb {
     Shift,
     AllowSet,
     Drop,
+    Sweep,
 }
 
 // What a command changes in lists, rows and the grants of a chain unit alike.
@@ -359,6 +363,29 @@ impl Answer {
     }
 }
 
+// What a command of a chain unit returns: an answer, and how many loans it swept, 0 where it counts nothing.
+pub struct Outcome {
+    pub answer: Answer,
+    pub count: u32,
+}
+
+impl Outcome {
+    // Of a refused command, which counts nothing.
+    pub fn refused(answer: Answer) -> Outcome
+        ensures { λ r. ⌜ r ≡ refusal answer ⌝ }
+    {
+        Outcome { answer, count: 0 }
+    }
+
+    // The number of its answer.
+    pub fn number(self) -> u32
+        ensures { λ r. ⌜ r ≡ numberOf (self .answer) ⌝ }
+    {
+        let a = self.answer;
+        a.number()
+    }
+}
+
 // What a unit makes of any command: an answer, or nothing where the unit lacks it.
 pub enum Offered {
     Answered(Answer),
@@ -450,6 +477,25 @@ impl Verb {
             Verb::Shift => (n == 8) | (n == 12),
             Verb::AllowSet => (n == 14) | (n == 5) | (n == 8),
             Verb::Drop => (n == 5) | (n == 8),
+            Verb::Sweep => false,
+        }
+    }
+
+    // Whether it is the one that counts.
+    fn is_sweep(self) -> bool
+        ensures { λ r. ⌜ r ≡ sweeps self ⌝ }
+    {
+        match self {
+            Verb::Create => false,
+            Verb::Delete => false,
+            Verb::Allow => false,
+            Verb::Withdraw => false,
+            Verb::Lend => false,
+            Verb::Recall => false,
+            Verb::Shift => false,
+            Verb::AllowSet => false,
+            Verb::Drop => false,
+            Verb::Sweep => true,
         }
     }
 }
@@ -501,7 +547,7 @@ impl Arguments {
 }
 
 impl Command {
-    // The items that it names. One without a to names on alone, and shift is about item 0.
+    // The items that it names. One without a to names on alone, shift is about item 0, and sweep names by alone.
     fn items(self) -> Items
         ensures { λ r. ⌜ (r .by ≡ argumentsOf self .by) × (r .to ≡ argumentsOf self .to) × (r .on ≡ argumentsOf self .on) ⌝ }
     {
@@ -515,6 +561,7 @@ impl Command {
             Command::Shift { by, .. } => Items { by, to: 0, on: 0 },
             Command::AllowSet { by, on, .. } => Items { by, to: on, on },
             Command::Drop { by, to, on, .. } => Items { by, to, on },
+            Command::Sweep { by } => Items { by, to: 0, on: 0 },
         }
     }
 
@@ -532,6 +579,7 @@ impl Command {
             Command::Shift { .. } => RightDepth { right: 0, depth: 0 },
             Command::AllowSet { right, depth, .. } => RightDepth { right, depth },
             Command::Drop { right, depth, .. } => RightDepth { right, depth },
+            Command::Sweep { .. } => RightDepth { right: 0, depth: 0 },
         }
     }
 
@@ -579,6 +627,7 @@ impl Command {
                 set,
             ),
             Command::Drop { .. } => self.arguments_with(Verb::Drop, Edit::Nothing, 0, 0),
+            Command::Sweep { .. } => self.arguments_with(Verb::Sweep, Edit::Nothing, 0, 0),
         }
     }
 
@@ -589,6 +638,15 @@ impl Command {
         let a = self.arguments();
         let edit = a.edit;
         edit.is_flat()
+    }
+
+    // Whether it is the command that counts.
+    pub fn is_sweep(self) -> bool
+        ensures { λ r. ⌜ r ≡ isSweep self ⌝ }
+    {
+        let a = self.arguments();
+        let verb = a.verb;
+        verb.is_sweep()
     }
 
     // Number 3.

@@ -6,15 +6,17 @@ use Prim.Native.Nat.{ℕ, _+_, _≤_}
 use lib.ListN.{length, take, replicate}
 use lib.Seq.{sets}
 use lib.Dec.{eqb, leb}
+use Rattle.model.specs.declared.Command.{Command}
 use Rattle.model.specs.declared.Answer.the-variants as is
 use Rattle.model.specs.declared.Offered.{Offered}
 use Rattle.model.specs.declared.Offered.the-variants as offered
+use Rattle.model.specs.Commands.{isSweep}
 use Rattle.model.specs.Answers.{Found, numberOf}
 use Rattle.lines.specs.declared.Parsed.the-variants.{Malformed}
 use Rattle.output.specs.declared.reply.Said.{Said}
 use Rattle.output.specs.declared.reply.Said.the-variants.{Number, Yes, No, Passed}
 use Rattle.output.specs.declared.reply.Tail.{Tail}
-use Rattle.output.specs.declared.reply.Tail.the-variants.{Nothing, Dashes, Chain}
+use Rattle.output.specs.declared.reply.Tail.the-variants.{Nothing, Dashes, Chain, Swept, Unswept}
 use Rattle.output.specs.declared.reply.Reply.{Reply}
 use Rattle.lines.specs.Bytes.{bytes}
 use Rattle.lines.specs.Show.{shown}
@@ -41,12 +43,22 @@ persons (p ∷ ps) = shown p ++ morePersons ps
 abbrev pub dashes : List ℕ
 dashes = bytes " depth=- via=-"
 
+-- 'Its output line gains `swept=` and the count': the key
+abbrev pub sweptKey : List ℕ
+sweptKey = bytes " swept="
+
+-- the field of a refused sweep: '`-` when refused'
+abbrev pub unswept : List ℕ
+unswept = bytes " swept=-"
+
 -- 'After a check come the chain unit's depth and, as `via`, its chain's persons .. when the chain unit says no, both are `-`';
--- the persons stand in the chain buffer `via`
+-- the persons stand in the chain buffer `via`. After a sweep comes its count
 unfoldable pub tailText : Tail → List ℕ → List ℕ
 tailText Nothing via = []
 tailText Dashes via = dashes
 tailText (Chain depth n) via = bytes " depth=" ++ (shown depth ++ (bytes " via=" ++ persons (take n via)))
+tailText (Swept n) via = sweptKey ++ shown n
+tailText Unswept via = unswept
 
 -- each line of output is ended by byte 10
 unfoldable pub newline : List ℕ
@@ -92,6 +104,10 @@ offeredSaid has n = cond has (Number n) Passed
 abbrev pub offeredOf : Offered → Said
 offeredOf (offered.Answered a) = Number (numberOf a)
 offeredOf offered.Passed = Passed
+
+-- what comes after a command, by the chain unit's number and count: of sweep the count, '`-` when refused', of any other nothing
+abbrev pub commandTail : Command → ℕ → ℕ → Tail
+commandTail c n k = cond (isSweep c) (cond (eqb n 0) (Swept k) Unswept) Nothing
 
 -- a check's number and yes
 abbrev pub checkSaid : ℕ → Bool → Said

@@ -117,6 +117,8 @@ fn put_tail(buf: &mut [u8], at: usize, tail: Tail, via: [u8; 8]) -> usize
         Tail::Nothing => at,
         Tail::Dashes => put_bytes(buf, at, b" depth=- via=-"),
         Tail::Chain { depth, persons } => put_chain(buf, at, depth, persons, via),
+        Tail::Swept(n) => put_field(buf, at, b" swept=", Said::Number(n)),
+        Tail::Unswept => put_bytes(buf, at, b" swept=-"),
     }
 }
 

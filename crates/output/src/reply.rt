@@ -2,13 +2,14 @@
 use model::Answer;
 use model::ChainChecked;
 use model::Checked;
+use model::Command;
 use model::Offered;
+use model::Outcome;
 ghost use mathlib.Core.Path.{_≡_};
 ghost use mathlib.Core.Bool.{false};
 ghost use Rattle.model.specs.Answers.{numberOf, checkedNumber, checkedYes, chainNumber, foundIn};
 ghost use Rattle.output.specs.declared.reply.Said.the-variants.{Number};
-ghost use Rattle.output.specs.declared.reply.Tail.the-variants.{Nothing};
-ghost use Rattle.output.specs.Output.{reply, malformedReply, offeredOf, checkSaid, checkTail};
+ghost use Rattle.output.specs.Output.{reply, malformedReply, offeredOf, commandTail, checkSaid, checkTail};
 
 // A unit's field: its number, yes or no, or that it passes the command over.
 pub enum Said {
@@ -18,11 +19,14 @@ pub enum Said {
     Passed,
 }
 
-// What comes after the three fields: nothing; after a check two dashes, or the depth and number of persons of a chain.
+// What comes after the three fields: nothing; after a check two dashes, or the depth and number of persons of a chain; after a sweep its
+// count, or a dash where it was refused.
 pub enum Tail {
     Nothing,
     Dashes,
     Chain { depth: u32, persons: u32 },
+    Swept(u32),
+    Unswept,
 }
 
 // What the three units reply to a line; the persons of a chain stand in the chain buffer beside it.
@@ -79,6 +83,19 @@ impl Said {
 }
 
 impl Tail {
+    // After a command, by what the chain unit made of it.
+    pub fn of_command(c: Command, chain: Outcome) -> Tail
+        ensures { λ r. ⌜ r ≡ commandTail c (numberOf (chain .answer)) (chain .count) ⌝ }
+    {
+        if !c.is_sweep() {
+            return Tail::Nothing;
+        }
+        if chain.number() != 0 {
+            return Tail::Unswept;
+        }
+        Tail::Swept(chain.count)
+    }
+
     // After a check.
     pub fn of_chain(c: ChainChecked) -> Tail
         ensures { λ r. ⌜ r ≡ checkTail (foundIn c) ⌝ }
@@ -110,17 +127,19 @@ impl Reply {
     }
 
     // To a command.
-    pub fn of_command(list: Offered, row: Offered, chain: Answer) -> Reply
-        ensures { λ r. ⌜ r ≡ reply (offeredOf list) (offeredOf row) (Number (numberOf chain)) Nothing ⌝ }
+    pub fn of_command(c: Command, list: Offered, row: Offered, chain: Outcome) -> Reply
+        ensures { λ r. ⌜ r ≡ reply (offeredOf list) (offeredOf row) (Number (numberOf (chain .answer)))
+            (commandTail c (numberOf (chain .answer)) (chain .count)) ⌝ }
     {
         let l = Said::of_offered(list);
         let r = Said::of_offered(row);
         let n = chain.number();
+        let t = Tail::of_command(c, chain);
         Reply {
             list: l,
             row: r,
             chain: Said::Number(n),
-            tail: Tail::Nothing,
+            tail: t,
         }
     }
 

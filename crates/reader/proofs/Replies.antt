@@ -3,14 +3,14 @@ use mathlib.Core.Path.{_≡_, refl, sym, ap, _∙_, subst}
 use mathlib.Core.Bool.{Bool, true, false, cond}
 use mathlib.Core.List.{List}
 use Prim.Native.Nat.{ℕ}
-use Rattle.model.specs.declared.Answer.{Answer}
+use Rattle.model.specs.declared.Outcome.{Outcome}
 use Rattle.model.specs.declared.Checked.{Checked}
 use Rattle.model.specs.declared.ChainChecked.{ChainChecked}
 use Rattle.model.specs.declared.Command.{Command}
 use Rattle.model.specs.declared.Offered.{Offered}
 use Rattle.model.specs.declared.Offered.the-variants as offered
 use Rattle.model.specs.Answers.{numberOf, answerFor, checkedNumber, checkedYes, chainNumber, foundIn, flat}
-use Rattle.layouts.specs.Machine.{answerOf, Offers, Ran}
+use Rattle.layouts.specs.Machine.{answerOf, Offers, RanCounting}
 use Rattle.layouts.specs.Layouts.{Layout, lists, rows, flatUnit, checkNumber, checkYes, Checks}
 use Rattle.delegation.specs.Images.{images}
 use Rattle.delegation.specs.ChainUnit.{chainUnit, ChainChecks}
@@ -21,9 +21,8 @@ use Rattle.delegation.proofs.ChainEnds.{chain-told}
 use Rattle.lines.specs.declared.Parsed.{Parsed}
 use Rattle.lines.specs.declared.Parsed.the-variants.{Run, Ask, Malformed}
 use Rattle.output.specs.declared.reply.Said.the-variants.{Number}
-use Rattle.output.specs.declared.reply.Tail.the-variants.{Nothing}
 use Rattle.output.specs.declared.reply.Reply.{Reply}
-use Rattle.output.specs.Output.{reply, offeredSaid, offeredOf, checkSaid, checkTail, malformedReply, lentBuffer}
+use Rattle.output.specs.Output.{reply, offeredSaid, offeredOf, commandTail, checkSaid, checkTail, malformedReply, lentBuffer}
 use Rattle.transcript.specs.Program.{replyOf, viaOf, unitsAfter}
 use Rattle.reader.specs.Replies.{unitsIn, Replies}
 
@@ -38,17 +37,18 @@ offered-said L s c o x h = ap offeredOf (h .0) ∙ go (flat c) (answerOf (flatUn
 
 module _ (u : Units) where
   -- a command
-  pub command-replies : (c : Command) (l r : Offered) (a : Answer) (x y g t : List ℕ) (s : Reply) → Offers (flatUnit lists) (u .lists) c l x
-      → Offers (flatUnit rows) (u .rows) c r y → Ran chainUnit (u .chains) c a (images g t)
-      → s ≡ reply (offeredOf l) (offeredOf r) (Number (numberOf a)) Nothing → Replies u (Run c) s lentBuffer (unitsIn x y g t)
+  pub command-replies : (c : Command) (l r : Offered) (a : Outcome) (x y g t : List ℕ) (s : Reply) → Offers (flatUnit lists) (u .lists) c l x
+      → Offers (flatUnit rows) (u .rows) c r y → RanCounting chainUnit (u .chains) c a (images g t)
+      → s ≡ reply (offeredOf l) (offeredOf r) (Number (numberOf (a .answer))) (commandTail c (numberOf (a .answer)) (a .count))
+      → Replies u (Run c) s lentBuffer (unitsIn x y g t)
   unfolding replyOf viaOf unitsAfter
   command-replies c l r a x y g t s hl hr hc e =
       record {
         reply =
             e ∙ (λ i. reply (offered-said lists (u .lists) c l x hl i) (offered-said rows (u .rows) c r y hr i)
-            (Number (hc .0 .0 i)) Nothing);
+            (Number (hc .0 .0 i)) (commandTail c (hc .0 .0 i) (hc .1 i)));
         buffer = refl;
-        units = λ i. record { lists = hl .1 i; rows = hr .1 i; chains = hc .1 i };
+        units = λ i. record { lists = hl .1 i; rows = hr .1 i; chains = hc .2 i };
       }
 
   -- what lists or rows say of a check

@@ -49,7 +49,7 @@ fn run_command(
     let l = lists::offer(list, c);
     let r = rows::offer(row, c);
     let a = chains::offer(grants, loans, c);
-    Reply::of_command(l, r, a)
+    Reply::of_command(c, l, r, a)
 }
 
 // Asks each unit, the chain unit with a chain buffer of its own.

@@ -4,7 +4,7 @@ use mathlib.Core.Bool.{Bool, true, cond}
 use mathlib.Core.List.{List}
 use Prim.Native.Nat.{ℕ}
 use Rattle.model.specs.declared.Command.{Command}
-use Rattle.layouts.specs.Machine.{Machine, answerOf, stepOf}
+use Rattle.layouts.specs.Machine.{Machine, answerOf, countedOf, stepOf}
 use Rattle.layouts.specs.Layouts.{Layout, checkNumber, checkYes, checkLeft, freshNumber, freshOf, guarded}
 use Rattle.layouts.specs.Convert.{convertNumber, convertOf}
 use Rattle.layouts.specs.Subjects.{subjectsNumber, subjectsAnswer}
@@ -20,6 +20,10 @@ flag b = cond b 1 0
 -- number n and state x of a command, of any unit
 abbrev pub Gives : {S : Type 0} → Machine S → S → Command → ℕ → S → Type 0
 Gives M s c n x = (n ≡ answerOf M s c) × (x ≡ stepOf M s c)
+
+-- the same, and the count k, 0 beside a refusal
+abbrev pub GivesCount : {S : Type 0} → Machine S → S → Command → ℕ → ℕ → S → Type 0
+GivesCount M s c n k x = Gives M s c n x × (k ≡ countedOf M s c)
 
 -- number n of a conversion, and what both buffers hold after
 abbrev pub Turns : Layout → Layout → List ℕ → List ℕ → ℕ → List ℕ → List ℕ → Type 0

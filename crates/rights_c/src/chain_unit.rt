@@ -1,9 +1,9 @@
 // The chain unit for C.
 use crate::reply;
-ghost use Rattle.model.specs.declared.Command.the-variants.{Create, Delete, Allow, Withdraw, Lend, Recall, Shift, AllowSet, Drop};
+ghost use Rattle.model.specs.declared.Command.the-variants.{Create, Delete, Allow, Withdraw, Lend, Recall, Shift, AllowSet, Drop, Sweep};
 ghost use Rattle.delegation.specs.Images.{images};
 ghost use Rattle.delegation.specs.ChainUnit.{chainUnit};
-ghost use Rattle.rights_c.specs.Exports.{Gives, ChainFreshens, ChainAnswers, ChainInspects};
+ghost use Rattle.rights_c.specs.Exports.{Gives, GivesCount, ChainFreshens, ChainAnswers, ChainInspects};
 
 #[no_mangle]
 pub extern "C" fn rights_chains_fresh(grants: &mut [u8], loans: &mut [u32]) -> u32
@@ -156,6 +156,21 @@ pub extern "C" fn rights_chains_shift(
         (images (now (grants .exit)) (now (loans .exit))) ⌝ }
 {
     let a = chains::shift(grants, loans, by, shift);
+    a.number()
+}
+
+#[no_mangle]
+pub extern "C" fn rights_chains_sweep(
+    grants: &mut [u8],
+    loans: &mut [u32],
+    by: u32,
+    swept: &mut u32,
+) -> u32
+    ensures { λ r. ⌜ GivesCount chainUnit (images (now (grants .entry)) (now (loans .entry))) (Sweep by) r (now (swept .exit))
+        (images (now (grants .exit)) (now (loans .exit))) ⌝ }
+{
+    let a = chains::sweep(grants, loans, by);
+    *swept = a.count;
     a.number()
 }
 

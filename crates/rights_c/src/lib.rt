@@ -15,7 +15,7 @@ mod tickets_unit;
 
 #[no_mangle]
 pub extern "C" fn rights_version() -> u32
-    ensures { λ r. ⌜ r ≡ 10800 ⌝ }
+    ensures { λ r. ⌜ r ≡ 10900 ⌝ }
 {
     Version::number()
 }

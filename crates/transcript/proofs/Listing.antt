@@ -1,10 +1,11 @@
--- Document 01's listing, with document 02's `last`: what its lines ask for; lines with a set; lines of drop; and lines that are malformed.
+-- Document 01's listing, with document 02's `last`: what its lines ask for; lines with a set, of drop and of sweep; and lines that are
+-- malformed.
 -- By computation.
 use mathlib.Core.Path.{_≡_, refl}
 use Prim.Native.Nat.{ℕ}
 use mathlib.Core.List.{List, [], _∷_, _++_}
 use Rattle.bits.specs.Sets.{all}
-use Rattle.model.specs.declared.Command.the-variants.{Create, Allow, Withdraw, Lend, Shift, AllowSet, Drop}
+use Rattle.model.specs.declared.Command.the-variants.{Create, Allow, Withdraw, Lend, Shift, AllowSet, Drop, Sweep}
 use Rattle.lines.specs.declared.Parsed.the-variants.{Run, Ask, Malformed}
 use Rattle.lines.specs.Bytes.{bytes}
 use Rattle.lines.specs.Show.{shown}
@@ -77,6 +78,20 @@ pub malformed-drops :
     ≡ Malformed ∷ Malformed ∷ Malformed ∷ Malformed ∷ Malformed ∷ Malformed ∷ Malformed ∷ Malformed ∷ []
 unfolding linesFrom parseLine orElse meaning readBy andThen numberAt decimal
 malformed-drops = refl
+
+-- sweeps; and malformed ones: without by, without its value, a field too many, upper case, another word, a leading zero, two spaces, a space
+-- at the end, a number too large
+pub sweep-lines :
+    asksOf (bytes "do=sweep by=0\ndo=sweep by=4294967295\n") ≡ Run (Sweep 0) ∷ Run (Sweep 4294967295) ∷ []
+unfolding linesFrom parseLine orElse meaning readBy andThen numberAt decimal
+sweep-lines = refl
+
+pub malformed-sweeps :
+    asksOf (bytes "do=sweep\ndo=sweep by=\ndo=sweep by=0 now=1\ndo=Sweep by=0\ndo=sweeps by=0\n"
+    ++ bytes "do=sweep by=00\ndo=sweep  by=0\ndo=sweep by=0 \ndo=sweep by=4294967296\n")
+    ≡ Malformed ∷ Malformed ∷ Malformed ∷ Malformed ∷ Malformed ∷ Malformed ∷ Malformed ∷ Malformed ∷ Malformed ∷ []
+unfolding linesFrom parseLine orElse meaning readBy andThen numberAt decimal
+malformed-sweeps = refl
 
 -- 'Empty input gives `lines=0`'
 pub empty-output : outputOf [] ≡ bytes "lines=0\n"

@@ -12,9 +12,9 @@ use Rattle.bits.proofs.Sets.{by-cases, fst, snd, both}
 use Rattle.lines.specs.Bytes.{bytes}
 use Rattle.lines.specs.Show.{shown, shownIn}
 use Rattle.lines.specs.Collect.{Line, line, linesFrom, linesOf}
-use Rattle.output.specs.Output.{morePersons, dashes, newline, lineText, lastOutput}
+use Rattle.output.specs.Output.{morePersons, dashes, sweptKey, unswept, newline, lineText, lastOutput}
 use Rattle.transcript.specs.Program.{outputOf}
-use Rattle.transcript.specs.Forms.{yesNo, Form, numbers, passed, refused, no, yes, Formed, last, next}
+use Rattle.transcript.specs.Forms.{yesNo, Form, numbers, passed, swept, not-swept, refused, no, yes, Formed, last, next}
 use Rattle.transcript.proofs.Forms.{output-formed}
 
 -- no byte 10
@@ -84,6 +84,10 @@ plain-dashes : plain dashes ≡ true
 unfolding plain all
 plain-dashes = refl
 
+plain-unswept : plain unswept ≡ true
+unfolding plain all
+plain-unswept = refl
+
 plain-yesno : (b : Bool) → plain (yesNo b) ≡ true
 plain-yesno true = unfold plain all in refl
 plain-yesno false = unfold plain all in refl
@@ -91,6 +95,9 @@ plain-yesno false = unfold plain all in refl
 form-body : {n : ℕ} {t : List ℕ} → Form n t → Body t
 form-body {n} (numbers a b) = line-body n _ _ _ _ (plain-shown a) (plain-shown a) (plain-shown b) plain-none
 form-body {n} (passed a) = line-body n _ _ _ _ plain-dash plain-dash (plain-shown a) plain-none
+form-body {n} (swept k) =
+    line-body n _ _ _ _ plain-dash plain-dash (plain-shown 0) (plain-append sweptKey (shown k) (unfold plain all in refl) (plain-shown k))
+form-body {n} (not-swept a) = line-body n _ _ _ _ plain-dash plain-dash (plain-shown a) plain-unswept
 form-body {n} (refused a) = line-body n _ _ _ _ (plain-shown a) (plain-shown a) (plain-shown a) plain-dashes
 form-body {n} (no b) = line-body n _ _ _ _ (plain-yesno b) (plain-yesno b) (plain-yesno false) plain-dashes
 form-body {n} (yes b d p ps) =

@@ -9,7 +9,8 @@ use lib.Seq.{take-length}
 use lib.Dec.{eqb}
 use Rattle.model.specs.declared.Command.{Command}
 use Rattle.model.specs.Answers.{Found, asked, nothing, flat}
-use Rattle.model.specs.Journal.{Journal, answered, fresh, step, hasGrant}
+use Rattle.model.specs.Commands.{isSweep}
+use Rattle.model.specs.Journal.{Journal, answered, counted, fresh, step, hasGrant}
 use Rattle.layouts.specs.Machine.{answerOf}
 use Rattle.layouts.specs.Layouts.{lists, rows, flatUnit}
 use Rattle.model.specs.Chain.{Meets, JournalChain}
@@ -25,7 +26,7 @@ use Rattle.output.specs.declared.reply.Said.the-variants.{Number, Yes, No}
 use Rattle.output.specs.declared.reply.Tail.{Tail}
 use Rattle.output.specs.declared.reply.Tail.the-variants.{Nothing, Dashes, Chain}
 use Rattle.output.specs.declared.reply.Reply.{Reply}
-use Rattle.output.specs.Output.{tailText, outputLine, reply, offeredSaid, checkSaid, checkTail, lentBuffer}
+use Rattle.output.specs.Output.{tailText, outputLine, reply, offeredSaid, commandTail, checkSaid, checkTail, lentBuffer}
 use Rattle.transcript.specs.Program.{replyOf, viaOf, unitsAfter, outputFrom, asksOf, outputOf}
 use Rattle.transcript.specs.Text.{grantSaid, commandLine, CheckLine, refused, none, found, Allowed, last, next, commandsOf, TextAgreement}
 
@@ -33,18 +34,30 @@ first-agrees : (feed : Journal → Command → Journal) (cs : List Command) (j k
 first-agrees feed [] j k u h = h
 first-agrees feed (c ∷ cs) j k u h = h .0
 
--- a command's line
+-- a line depends on the chain buffer through its tail alone
+same-line : (n : ℕ) (l r c : Said) (t t′ : Tail) (via via′ : List ℕ) → tailText t via ≡ tailText t′ via′
+    → outputLine n (reply l r c t) via ≡ outputLine n (reply l r c t′) via′
+unfolding outputLine
+same-line n l r c t t′ via via′ e = rw e
+
+-- a command's line, whose tail asks nothing of the buffer
+command-tail : (c : Command) (n k : ℕ) → tailText (commandTail c n k) lentBuffer ≡ tailText (commandTail c n k) []
+unfolding tailText
+command-tail c n k =
+    by-cases (isSweep c) (λ t. rw t (by-cases (eqb n 0) (λ z. rw z) (λ z. rw z))) (λ t. rw t)
+
 offered : (b : Bool) (m n : ℕ) → (b ≡ true → m ≡ n) → offeredSaid b m ≡ offeredSaid b n
 offered true m n h = ap Number (h refl)
 offered false m n h = refl
 
 command-line : (j k : Journal) (u : Units) (n : ℕ) (c : Command) → Answers j k u c
     → outputLine n (replyOf u (Run c)) (viaOf u (Run c)) ≡ commandLine j k n c
-unfolding replyOf viaOf outputLine tailText
+unfolding replyOf viaOf
 command-line j k u n c a =
     let l = offered (flat c) (answerOf (flatUnit lists) (u .lists) c) (answered k c) (a .list) in
     let r = offered (flat c) (answerOf (flatUnit rows) (u .rows) c) (answered k c) (a .row) in
-    rw (l, r, a .chain)
+    (λ i. outputLine n (reply (l i) (r i) (Number (a .chain i)) (commandTail c (a .chain i) (a .count i))) lentBuffer)
+    ∙ same-line n _ _ _ _ _ lentBuffer [] (command-tail c (answered j c) (counted j c))
 
 malformed-line : (u : Units) (n : ℕ)
     → outputLine n (replyOf u Malformed) (viaOf u Malformed) ≡ outputLine n (reply (Number 11) (Number 11) (Number 11) Nothing) []
@@ -52,12 +65,6 @@ unfolding replyOf viaOf outputLine tailText
 malformed-line u n = refl
 
 -- ---- a check's line
--- a line depends on the chain buffer through its tail alone
-same-line : (n : ℕ) (l r c : Said) (t t′ : Tail) (via via′ : List ℕ) → tailText t via ≡ tailText t′ via′
-    → outputLine n (reply l r c t) via ≡ outputLine n (reply l r c t′) via′
-unfolding outputLine
-same-line n l r c t t′ via via′ e = rw e
-
 dashes-line : (n : ℕ) (l r c : Said) (via : List ℕ) → outputLine n (reply l r c Dashes) via ≡ outputLine n (reply l r c Dashes) []
 dashes-line n l r c via = same-line n l r c Dashes Dashes via [] (unfold tailText in refl)
 

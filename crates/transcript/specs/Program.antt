@@ -5,21 +5,20 @@ use Rattle.agreement.specs.Agreement.{Units, freshUnits, called}
 use Rattle.lines.specs.declared.Parsed.{Parsed}
 use Rattle.lines.specs.Collect.{linesOf, parsedOf}
 use Rattle.lines.specs.Chunks.{pieces, emptyWith, collected}
-use Rattle.output.specs.Output.{outputLine, lastOutput, reply, offeredSaid, checkSaid, checkTail, malformedReply, lentBuffer}
+use Rattle.output.specs.Output.{outputLine, lastOutput, reply, offeredSaid, commandTail, checkSaid, checkTail, malformedReply, lentBuffer}
 use Rattle.model.specs.Answers.{flat}
-use Rattle.layouts.specs.Machine.{answerOf}
+use Rattle.layouts.specs.Machine.{answerOf, countedOf}
 use Rattle.layouts.specs.Layouts.{lists, rows, flatUnit, checkNumber, checkYes}
 use Rattle.delegation.specs.ChainUnit.{chainUnit, chainCheckNumber, chainFound, chainBuffer}
 use Rattle.lines.specs.declared.Parsed.the-variants.{Run, Ask, Malformed}
 use Rattle.output.specs.declared.reply.Said.the-variants.{Number}
-use Rattle.output.specs.declared.reply.Tail.the-variants.{Nothing}
 use Rattle.output.specs.declared.reply.Reply.{Reply}
 
--- the reply to what a line asks for: lists and rows pass over lend and recall; a check's numbers, yes or no, depth and chain
+-- the reply to what a line asks for: lists and rows pass over lend and recall; sweep's count; a check's numbers, yes or no, depth and chain
 unfoldable pub replyOf : Units → Parsed → Reply
 replyOf u (Run c) =
     reply (offeredSaid (flat c) (answerOf (flatUnit lists) (u .lists) c)) (offeredSaid (flat c) (answerOf (flatUnit rows) (u .rows) c))
-    (Number (answerOf chainUnit (u .chains) c)) Nothing
+    (Number (answerOf chainUnit (u .chains) c)) (commandTail c (answerOf chainUnit (u .chains) c) (countedOf chainUnit (u .chains) c))
 replyOf u (Ask who on right) =
     reply (checkSaid (checkNumber lists (u .lists) who on right) (checkYes lists (u .lists) who on right))
     (checkSaid (checkNumber rows (u .rows) who on right) (checkYes rows (u .rows) who on right))

@@ -8,7 +8,7 @@ use lib.ListN.{length}
 use Rattle.bits.specs.Sets.{any}
 use Rattle.model.specs.declared.Command.{Command}
 use Rattle.model.specs.Answers.{asked, flat}
-use Rattle.model.specs.Journal.{Journal, answered, fresh, step, hasGrant, isDrop}
+use Rattle.model.specs.Journal.{Journal, answered, counted, fresh, step, hasGrant, isDrop}
 use Rattle.model.specs.Chain.{Shortest, JournalChain}
 use Rattle.agreement.specs.Agreement.{flatStep}
 use Rattle.lines.specs.declared.Parsed.{Parsed}
@@ -16,7 +16,7 @@ use Rattle.lines.specs.declared.Parsed.the-variants.{Run, Ask, Malformed}
 use Rattle.output.specs.declared.reply.Said.{Said}
 use Rattle.output.specs.declared.reply.Said.the-variants.{Number, Yes, No}
 use Rattle.output.specs.declared.reply.Tail.the-variants.{Nothing, Dashes, Chain}
-use Rattle.output.specs.Output.{outputLine, lastOutput, reply, offeredSaid}
+use Rattle.output.specs.Output.{outputLine, lastOutput, reply, offeredSaid, commandTail}
 
 -- what lists and rows say of a check: yes exactly when a grant stands
 abbrev pub grantSaid : Journal → ℕ → ℕ → ℕ → Said
@@ -26,9 +26,10 @@ grantSaid k p o r = cond (hasGrant k p o r) Yes No
 abbrev pub flatAnswer : Journal → Command → Said
 flatAnswer k c = offeredSaid (flat c) (answered k c)
 
--- line n, after a command
+-- line n, after a command: its numbers, and of sweep the count
 abbrev pub commandLine : Journal → Journal → ℕ → Command → List ℕ
-commandLine j k n c = outputLine n (reply (flatAnswer k c) (flatAnswer k c) (Number (answered j c)) Nothing) []
+commandLine j k n c =
+    outputLine n (reply (flatAnswer k c) (flatAnswer k c) (Number (answered j c)) (commandTail c (answered j c) (counted j c))) []
 
 -- line n, after a check of person p on item o, right r
 pub data CheckLine (j k : Journal) (n p o r : ℕ) : List ℕ → Type 0 where

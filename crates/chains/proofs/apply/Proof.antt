@@ -1,9 +1,9 @@
--- In each arm both images are as the verb, which the match has told, leaves them (`arm`). A recall finds the
--- loans image in order (`loans-ordered`), so do a withdraw and a drop (`ending`), and so does a loan that the table let through, with room
--- in it, since row 10 does not hold (`room`).
+-- In each arm both images are as the verb, which the match has told, leaves them, and the count is that verb's: 0 but for a sweep (`arm`).
+-- A recall finds the loans image in order (`loans-ordered`), so do a withdraw and a drop (`ending`), and so does a loan that the table let
+-- through, with room in it, since row 10 does not hold (`room`). A sweep finds the shift within its limit (`counted`).
 use borrow.Author.Needs.{needs}
 use native.Mathlib.Omega.{arith}
-use mathlib.Core.Path.{ap, _∙_}
+use mathlib.Core.Path.{refl, ap, _∙_}
 use mathlib.Core.Bool.{not}
 use lib.Dec.{eqb}
 use Rattle.model.specs.Commands.{rawOf}
@@ -11,6 +11,7 @@ use Rattle.delegation.specs.Loans.{loansWith, loansKept}
 use Rattle.delegation.specs.Images.{images}
 use Rattle.chains.proofs.Arms.{arm, loans-ordered, room}
 use Rattle.chains.proofs.Ending.{ending}
+use Rattle.chains.proofs.Judging.{counted}
 use Rattle.chains.proofs.apply.Statement.{statement}
 use Rattle.chains.proofs.apply.Tie as tie
 
@@ -85,62 +86,69 @@ drop-grant-requires c κs =
       omega (arith, start .pre .ready .ranged .depth),
     )
 
+enum-told-10 : tie.Need-enum-told-10
+enum-told-10 c = search needs
+
+end-past-requires : tie.Need-end-past-requires
+end-past-requires c κs =
+    let start = c .before .before .before .before .before in
+    (start .pre .ready .loans, counted (images (start .args .grants .now) (start .args .loans .now)) (start .pre .ready .ordered) .0)
+
 same-length : tie.Need-same-length
 same-length c = search needs
 
 returns : tie.Need-returns
 returns c =
     let start = c .before .before .before .before .before .before .before .before in
-    arm (images (start .args .grants .now) (start .args .loans .now)) _ (rawOf (start .args .t)) _
-    (c .before .before .before .before .enum-told .given .1)
-    (ap (λ g. images g (start .args .loans .now)) (c .before .before .put-item .ensures))
+    arm (images (start .args .grants .now) (start .args .loans .now)) _ _ (rawOf (start .args .t)) _
+    (c .before .before .before .before .enum-told10 .given .1)
+    (ap (images (start .args .grants .now)) (c .before .before .end-past .ensures .0)) (c .before .before .end-past .ensures .1)
 
 same-length-2 : tie.Need-same-length-2
 same-length-2 c = search needs
 
-same-length-3 : tie.Need-same-length-3
-same-length-3 c = search needs
-
 returns-2 : tie.Need-returns-2
 returns-2 c =
-    let start = c .before .before .before .before .before .before .before .before .before .before .before in
-    arm (images (start .args .grants .now) (start .args .loans .now)) _ (rawOf (start .args .t)) _
-    (c .before .before .before .before .before .before .before .enum-told2 .given .1)
-    (c .before .before .before .before .drop-item .ensures)
+    let start = c .before .before .before .before .before .before .before .before in
+    arm (images (start .args .grants .now) (start .args .loans .now)) _ _ (rawOf (start .args .t)) _
+    (c .before .before .before .before .enum-told .given .1)
+    (ap (λ g. images g (start .args .loans .now)) (c .before .before .put-item .ensures)) refl
+
+same-length-3 : tie.Need-same-length-3
+same-length-3 c = search needs
 
 same-length-4 : tie.Need-same-length-4
 same-length-4 c = search needs
 
 returns-3 : tie.Need-returns-3
 returns-3 c =
-    let start = c .before .before .before .before .before .before .before .before in
-    arm (images (start .args .grants .now) (start .args .loans .now)) _ (rawOf (start .args .t)) _
-    (c .before .before .before .before .enum-told3 .given .1)
-    (ap (λ g. images g (start .args .loans .now)) (c .before .before .put-grant .ensures))
+    let start = c .before .before .before .before .before .before .before .before .before .before .before in
+    arm (images (start .args .grants .now) (start .args .loans .now)) _ _ (rawOf (start .args .t)) _
+    (c .before .before .before .before .before .before .before .enum-told2 .given .1)
+    (c .before .before .before .before .drop-item .ensures) refl
 
 same-length-5 : tie.Need-same-length-5
 same-length-5 c = search needs
 
-same-length-6 : tie.Need-same-length-6
-same-length-6 c = search needs
-
 returns-4 : tie.Need-returns-4
 returns-4 c =
-    let start = c .before .before .before .before .before .before .before .before .before .before .before in
-    arm (images (start .args .grants .now) (start .args .loans .now)) _ (rawOf (start .args .t)) _
-    (c .before .before .before .before .before .before .before .enum-told4 .given .1)
-    (c .before .before .before .before .drop-grants .ensures)
+    let start = c .before .before .before .before .before .before .before .before in
+    arm (images (start .args .grants .now) (start .args .loans .now)) _ _ (rawOf (start .args .t)) _
+    (c .before .before .before .before .enum-told3 .given .1)
+    (ap (λ g. images g (start .args .loans .now)) (c .before .before .put-grant .ensures)) refl
+
+same-length-6 : tie.Need-same-length-6
+same-length-6 c = search needs
 
 same-length-7 : tie.Need-same-length-7
 same-length-7 c = search needs
 
 returns-5 : tie.Need-returns-5
 returns-5 c =
-    let start = c .before .before .before .before .before .before .before .before .before in
-    arm (images (start .args .grants .now) (start .args .loans .now)) _ (rawOf (start .args .t)) _
-    (c .before .before .before .before .before .enum-told5 .given .1)
-    (ap (images (start .args .grants .now))
-    (c .before .before .insert .ensures ∙ ap (λ w. loansWith w (start .args .loans .now)) (c .before .before .before .loan-word .ensures)))
+    let start = c .before .before .before .before .before .before .before .before .before .before .before in
+    arm (images (start .args .grants .now) (start .args .loans .now)) _ _ (rawOf (start .args .t)) _
+    (c .before .before .before .before .before .before .before .enum-told4 .given .1)
+    (c .before .before .before .before .drop-grants .ensures) refl
 
 same-length-8 : tie.Need-same-length-8
 same-length-8 c = search needs
@@ -148,21 +156,23 @@ same-length-8 c = search needs
 returns-6 : tie.Need-returns-6
 returns-6 c =
     let start = c .before .before .before .before .before .before .before .before .before in
-    arm (images (start .args .grants .now) (start .args .loans .now)) _ (rawOf (start .args .t)) _
-    (c .before .before .before .before .before .enum-told6 .given .1)
+    arm (images (start .args .grants .now) (start .args .loans .now)) _ _ (rawOf (start .args .t)) _
+    (c .before .before .before .before .before .enum-told5 .given .1)
     (ap (images (start .args .grants .now))
-    (c .before .before .remove .ensures
-    ∙ ap (λ w. loansKept (λ x. not (eqb w x)) (start .args .loans .now)) (c .before .before .before .loan-word2 .ensures)))
+    (c .before .before .insert .ensures ∙ ap (λ w. loansWith w (start .args .loans .now)) (c .before .before .before .loan-word .ensures)))
+    refl
 
 same-length-9 : tie.Need-same-length-9
 same-length-9 c = search needs
 
 returns-7 : tie.Need-returns-7
 returns-7 c =
-    let start = c .before .before .before .before .before .before .before .before in
-    arm (images (start .args .grants .now) (start .args .loans .now)) _ (rawOf (start .args .t)) _
-    (c .before .before .before .before .enum-told7 .given .1)
-    (ap (images (start .args .grants .now)) (c .before .before .set-shift .ensures))
+    let start = c .before .before .before .before .before .before .before .before .before in
+    arm (images (start .args .grants .now) (start .args .loans .now)) _ _ (rawOf (start .args .t)) _
+    (c .before .before .before .before .before .enum-told6 .given .1)
+    (ap (images (start .args .grants .now))
+    (c .before .before .remove .ensures
+    ∙ ap (λ w. loansKept (λ x. not (eqb w x)) (start .args .loans .now)) (c .before .before .before .loan-word2 .ensures))) refl
 
 same-length-10 : tie.Need-same-length-10
 same-length-10 c = search needs
@@ -170,22 +180,32 @@ same-length-10 c = search needs
 returns-8 : tie.Need-returns-8
 returns-8 c =
     let start = c .before .before .before .before .before .before .before .before in
-    arm (images (start .args .grants .now) (start .args .loans .now)) _ (rawOf (start .args .t)) _
-    (c .before .before .before .before .enum-told8 .given .1)
-    (ap (λ g. images g (start .args .loans .now)) (c .before .before .put-grants .ensures))
+    arm (images (start .args .grants .now) (start .args .loans .now)) _ _ (rawOf (start .args .t)) _
+    (c .before .before .before .before .enum-told7 .given .1)
+    (ap (images (start .args .grants .now)) (c .before .before .set-shift .ensures)) refl
 
 same-length-11 : tie.Need-same-length-11
 same-length-11 c = search needs
 
+returns-9 : tie.Need-returns-9
+returns-9 c =
+    let start = c .before .before .before .before .before .before .before .before in
+    arm (images (start .args .grants .now) (start .args .loans .now)) _ _ (rawOf (start .args .t)) _
+    (c .before .before .before .before .enum-told8 .given .1)
+    (ap (λ g. images g (start .args .loans .now)) (c .before .before .put-grants .ensures)) refl
+
 same-length-12 : tie.Need-same-length-12
 same-length-12 c = search needs
 
-returns-9 : tie.Need-returns-9
-returns-9 c =
+same-length-13 : tie.Need-same-length-13
+same-length-13 c = search needs
+
+returns-10 : tie.Need-returns-10
+returns-10 c =
     let start = c .before .before .before .before .before .before .before .before .before .before .before in
-    arm (images (start .args .grants .now) (start .args .loans .now)) _ (rawOf (start .args .t)) _
+    arm (images (start .args .grants .now) (start .args .loans .now)) _ _ (rawOf (start .args .t)) _
     (c .before .before .before .before .before .before .before .enum-told9 .given .1)
-    (c .before .before .before .before .drop-grant .ensures)
+    (c .before .before .before .before .drop-grant .ensures) refl
 
 pub apply-spec : {M : Type 1} → statement M
 apply-spec =
@@ -211,16 +231,18 @@ apply-spec =
     put-grants-requires
     enum-told-9
     drop-grant-requires
+    enum-told-10
+    end-past-requires
     same-length
     returns
     same-length-2
-    same-length-3
     returns-2
+    same-length-3
     same-length-4
     returns-3
     same-length-5
-    same-length-6
     returns-4
+    same-length-6
     same-length-7
     returns-5
     same-length-8
@@ -230,5 +252,7 @@ apply-spec =
     same-length-10
     returns-8
     same-length-11
+    returns-9
     same-length-12
-    returns-9)
+    same-length-13
+    returns-10)

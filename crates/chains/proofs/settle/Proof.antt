@@ -1,9 +1,9 @@
--- The table is asked about the facts of the images: another number than 0 leaves both (`judged-stops`); 0 means that the command is
--- accepted (`accepted`), and it is applied (`judged-goes`).
+-- The table is asked about the facts of the images: another number than 0 leaves both and counts nothing (`counting-stops`); 0 means that
+-- the command is accepted (`accepted`), and it is applied and counts (`counting-goes`).
 use borrow.Author.Needs.{needs}
-use Rattle.layouts.proofs.Ends.{judged-stops, judged-goes}
+use Rattle.layouts.proofs.Ends.{counting-stops, counting-goes}
 use Rattle.delegation.specs.ChainUnit.{chainUnit}
-use Rattle.chains.proofs.Arms.{accepted}
+use Rattle.chains.proofs.Arms.{accepted, as-refused}
 use Rattle.model.specs.Commands.{rawOf}
 use Rattle.delegation.specs.Images.{images}
 use Rattle.chains.proofs.settle.Statement.{statement}
@@ -18,6 +18,9 @@ judge-requires c κs = search needs
 number-requires : tie.Need-number-requires
 number-requires c κs = search needs
 
+refused-requires : tie.Need-refused-requires
+refused-requires c κs = search needs
+
 same-length : tie.Need-same-length
 same-length c = search needs
 
@@ -26,9 +29,11 @@ same-length-2 c = search needs
 
 returns : tie.Need-returns
 returns c =
-    let start = c .before .before .before .before .before .before .before .before in
-    judged-stops chainUnit (images (start .args .grants .now) (start .args .loans .now)) (rawOf (start .args .t)) _ _ _
-    (c .before .before .before .facts .ensures) (c .before .before .judge .ensures) (c .before .number .ensures) (c .if1 .taken)
+    let start = c .before .before .before .before .before .before .before .before .before in
+    as-refused _ _ _ _ (c .refused .ensures)
+    (counting-stops chainUnit (images (start .args .grants .now) (start .args .loans .now)) (rawOf (start .args .t)) _ _ _
+    (c .before .before .before .before .facts .ensures) (c .before .before .before .judge .ensures)
+    (c .before .before .number .ensures) (c .before .if1 .taken))
 
 apply-requires : tie.Need-apply-requires
 apply-requires c κs =
@@ -46,11 +51,12 @@ same-length-4 c = search needs
 returns-2 : tie.Need-returns-2
 returns-2 c =
     let start = c .before .before .before .before .before .before .before .before .before .before .before .before .before .before .before in
-    judged-goes chainUnit (images (start .args .grants .now) (start .args .loans .now)) (rawOf (start .args .t)) _ _ _ _
+    counting-goes chainUnit (images (start .args .grants .now) (start .args .loans .now)) (rawOf (start .args .t)) _ _ _ _ _
     (c .before .before .before .before .before .before .before .before .before .before .facts .ensures)
     (c .before .before .before .before .before .before .before .before .before .judge .ensures)
     (c .before .before .before .before .before .before .before .before .number .ensures)
-    (c .before .before .before .before .before .before .before .if1 .left) (c .before .before .before .before .apply .ensures)
+    (c .before .before .before .before .before .before .before .if1 .left) (c .before .before .before .before .apply .ensures .0)
+    (c .before .before .before .before .apply .ensures .1)
 
 pub settle-spec : {M : Type 1} → statement M
 settle-spec =
@@ -59,6 +65,7 @@ settle-spec =
     facts-requires
     judge-requires
     number-requires
+    refused-requires
     same-length
     same-length-2
     returns

@@ -108,13 +108,16 @@ returns-9 : tie.Need-returns-9
 returns-9 c = narrow-meaning 8 _ (c .match .keys9) (c .before .before .before .before .before .before .before .pre)
 
 returns-10 : tie.Need-returns-10
-returns-10 c =
-    c .ask .ensures
-    ∙ narrow-meaning 9 _ (c .before .match .keys10) (c .before .before .before .before .before .before .before .before .pre)
+returns-10 c = narrow-meaning 9 _ (c .match .keys10) (c .before .before .before .before .before .before .before .pre)
 
 returns-11 : tie.Need-returns-11
+returns-11 c =
+    c .ask .ensures
+    ∙ narrow-meaning 10 _ (c .before .match .keys11) (c .before .before .before .before .before .before .before .before .pre)
+
+returns-12 : tie.Need-returns-12
 unfolding meaning
-returns-11 c = rw (past _ (c .match .rest)) refl
+returns-12 c = rw (past _ (c .match .rest)) refl
 
 pub meaning-of-spec : {M : Type 1} → statement M
 meaning-of-spec =
@@ -150,4 +153,5 @@ meaning-of-spec =
     returns-8
     returns-9
     returns-10
-    returns-11)
+    returns-11
+    returns-12)

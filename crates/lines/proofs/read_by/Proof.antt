@@ -94,6 +94,15 @@ slice-aggregate-fill-20 c = search needs
 fill-requires-10 : tie.Need-fill-requires-10
 fill-requires-10 c κs = search needs
 
+slice-aggregate-fill-21 : tie.Need-slice-aggregate-fill-21
+slice-aggregate-fill-21 c = search needs
+
+slice-aggregate-fill-22 : tie.Need-slice-aggregate-fill-22
+slice-aggregate-fill-22 c = search needs
+
+fill-requires-11 : tie.Need-fill-requires-11
+fill-requires-11 c κs = search needs
+
 returns : tie.Need-returns
 returns c = rw (c .before .before .before .before .match .keys1) (c .fill .ensures)
 
@@ -125,7 +134,10 @@ returns-10 : tie.Need-returns-10
 returns-10 c = rw (c .before .before .before .before .match .keys10) (c .fill10 .ensures)
 
 returns-11 : tie.Need-returns-11
-returns-11 c = past-not _ _ _ (c .match .rest) (c .before .before .pre .1)
+returns-11 c = rw (c .before .before .before .before .match .keys11) (c .fill11 .ensures)
+
+returns-12 : tie.Need-returns-12
+returns-12 c = past-not _ _ _ (c .match .rest) (c .before .before .pre .1)
 
 pub read-by-spec : {M : Type 1} → statement M
 read-by-spec =
@@ -161,6 +173,9 @@ read-by-spec =
     slice-aggregate-fill-19
     slice-aggregate-fill-20
     fill-requires-10
+    slice-aggregate-fill-21
+    slice-aggregate-fill-22
+    fill-requires-11
     returns
     returns-2
     returns-3
@@ -171,4 +186,5 @@ read-by-spec =
     returns-8
     returns-9
     returns-10
-    returns-11)
+    returns-11
+    returns-12)

@@ -73,6 +73,12 @@ enum-told-5 c = search needs
 arguments-with-requires-9 : tie.Need-arguments-with-requires-9
 arguments-with-requires-9 c κs = search needs
 
+enum-told-6 : tie.Need-enum-told-6
+enum-told-6 c = search needs
+
+arguments-with-requires-10 : tie.Need-arguments-with-requires-10
+arguments-with-requires-10 c κs = search needs
+
 returns : tie.Need-returns
 returns c = c .arguments-with .ensures ∙ told _ _ _ _ _ _ (c .before .enum-told .given .1) refl
 
@@ -100,6 +106,9 @@ returns-8 c = c .arguments-with8 .ensures ∙ sym (ap argumentsOf (c .before .be
 returns-9 : tie.Need-returns-9
 returns-9 c = c .arguments-with9 .ensures ∙ told _ _ _ _ _ _ (c .before .enum-told5 .given .1) refl
 
+returns-10 : tie.Need-returns-10
+returns-10 c = c .arguments-with10 .ensures ∙ told _ _ _ _ _ _ (c .before .enum-told6 .given .1) refl
+
 pub arguments-spec : {M : Type 1} → statement M
 arguments-spec =
     tie.close
@@ -122,6 +131,8 @@ arguments-spec =
     arguments-with-requires-8
     enum-told-5
     arguments-with-requires-9
+    enum-told-6
+    arguments-with-requires-10
     returns
     returns-2
     returns-3
@@ -130,4 +141,5 @@ arguments-spec =
     returns-6
     returns-7
     returns-8
-    returns-9)
+    returns-9
+    returns-10)

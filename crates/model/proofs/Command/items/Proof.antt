@@ -38,6 +38,9 @@ enum-known-self-8 c = search needs
 enum-known-self-9 : tie.Need-enum-known-self-9
 enum-known-self-9 c = search needs
 
+enum-known-self-10 : tie.Need-enum-known-self-10
+enum-known-self-10 c = search needs
+
 returns : tie.Need-returns
 returns c = told _ _ (c .before .self .given .1)
 
@@ -65,6 +68,9 @@ returns-8 c = told _ _ (c .before .self8 .given .1)
 returns-9 : tie.Need-returns-9
 returns-9 c = told _ _ (c .before .self9 .given .1)
 
+returns-10 : tie.Need-returns-10
+returns-10 c = told _ _ (c .before .self10 .given .1)
+
 pub items-spec : {M : Type 1} → statement M
 items-spec =
     tie.close
@@ -78,6 +84,7 @@ items-spec =
     enum-known-self-7
     enum-known-self-8
     enum-known-self-9
+    enum-known-self-10
     returns
     returns-2
     returns-3
@@ -86,4 +93,5 @@ items-spec =
     returns-6
     returns-7
     returns-8
-    returns-9)
+    returns-9
+    returns-10)

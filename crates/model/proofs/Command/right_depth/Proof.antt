@@ -36,6 +36,9 @@ enum-known-self-5 c = search needs
 enum-known-self-6 : tie.Need-enum-known-self-6
 enum-known-self-6 c = search needs
 
+enum-told-4 : tie.Need-enum-told-4
+enum-told-4 c = search needs
+
 returns : tie.Need-returns
 returns c = told _ _ (c .enum-told .given .1)
 
@@ -63,6 +66,9 @@ returns-8 c = told _ _ (c .before .self5 .given .1)
 returns-9 : tie.Need-returns-9
 returns-9 c = told _ _ (c .before .self6 .given .1)
 
+returns-10 : tie.Need-returns-10
+returns-10 c = told _ _ (c .enum-told4 .given .1)
+
 pub right-depth-spec : {M : Type 1} → statement M
 right-depth-spec =
     tie.close
@@ -76,6 +82,7 @@ right-depth-spec =
     enum-told-3
     enum-known-self-5
     enum-known-self-6
+    enum-told-4
     returns
     returns-2
     returns-3
@@ -84,4 +91,5 @@ right-depth-spec =
     returns-6
     returns-7
     returns-8
-    returns-9)
+    returns-9
+    returns-10)

@@ -11,9 +11,18 @@ of-offered-requires-2 c κs = search needs
 number-requires : tie.Need-number-requires
 number-requires c κs = search needs
 
+of-command-requires : tie.Need-of-command-requires
+of-command-requires c κs = search needs
+
 returns : tie.Need-returns
-returns c = rw (c .before .before .of-offered .ensures, c .before .of-offered2 .ensures, c .number .ensures)
+returns c =
+    rw (
+      c .before .before .before .of-offered .ensures,
+      c .before .before .of-offered2 .ensures,
+      c .before .number .ensures,
+      c .of-command .ensures,
+    )
 
 pub of-command-spec : {M : Type 1} → statement M
 of-command-spec =
-    tie.close (tie.spec of-offered-requires of-offered-requires-2 number-requires returns)
+    tie.close (tie.spec of-offered-requires of-offered-requires-2 number-requires of-command-requires returns)
