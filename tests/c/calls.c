@@ -527,10 +527,14 @@ static void chains_refusals(void)
     returned("chains lend, length", rights_chains_lend(SHORT, HOLDER, BORROWER, DRAWER, RIGHT, DEPTH, LAST), 1); \
     returned("chains recall, length", rights_chains_recall(SHORT, HOLDER, BORROWER, DRAWER, RIGHT, LOAN_DEPTH, LAST), 1); \
     returned("chains shift, length", rights_chains_shift(SHORT, ROOT, RIGHTS_SHIFT_MAX), 1); \
+    swept = UINT32_MAX; \
+    returned("chains sweep, length", rights_chains_sweep(SHORT, ROOT, &swept), 1); \
+    same("chains sweep, length", "the count", swept, 0); \
     returned("chains inspect, length", rights_chains_inspect(SHORT), 1);
 
 static void chains_lengths(void)
 {
+    uint32_t swept;
     REFUSED_LENGTHS(SHORT_GRANTS)
     REFUSED_LENGTHS(SHORT_LOANS)
 }
@@ -1099,6 +1103,327 @@ static void fewest_limits(void)
     fewest_check("fewest, from the greatest person to the least", ROOT, 3, "63,0");
 }
 
+/* ---- sweep: the loans past their last shift end, the others close up in their order, and the count is how many ended */
+
+static void sweep_call(const char *call, uint32_t by, uint32_t number_due, uint32_t swept_due)
+{
+    uint32_t swept = UINT32_MAX;
+    returned(call, rights_chains_sweep(UNIT, by, &swept), number_due);
+    same(call, "the count", swept, swept_due);
+}
+
+/* No loan, none with a last shift, shift 0, and loans in their last shift, with a later one and open-ended. */
+static void sweep_none(void)
+{
+    chains_anew();
+    sweep_call("sweep, no loan", ROOT, 0, 0);
+    chains_lend(HOLDER, BORROWER, DRAWER, RIGHT, LOAN_DEPTH, 0);
+    chains_shift(RIGHTS_SHIFT_MAX);
+    sweep_call("sweep, an open-ended loan", ROOT, 0, 0);
+    chains_shift(0);
+    chains_lend(HOLDER, BORROWER, DRAWER, RIGHT, LOAN_DEPTH, 1);
+    chains_lend(HOLDER, BORROWER, DRAWER, RIGHT, LOAN_DEPTH, RIGHTS_SHIFT_MAX);
+    sweep_call("sweep, shift 0", ROOT, 0, 0);
+    chains_shift(1);
+    sweep_call("sweep, in a last shift", ROOT, 0, 0);
+}
+
+static uint32_t sweep_of_last(uint32_t last) { return loan(last, HOLDER, DRAWER, RIGHT, BORROWER, last % 8); }
+
+/* A loan for every last shift, 0 to 255. */
+static void sweep_lasts(void)
+{
+    chains_anew();
+    for (uint32_t last = 0; last <= RIGHTS_SHIFT_MAX; last++)
+        chains_lend(HOLDER, BORROWER, DRAWER, RIGHT, last % 8, last);
+}
+
+/* Shift by shift each loan ends in the one after its last. */
+static void sweep_each_shift(void)
+{
+    sweep_lasts();
+    for (uint32_t now = 0; now <= RIGHTS_SHIFT_MAX; now++) {
+        chains_shift(now);
+        if (now > 1)
+            loans_loan(sweep_of_last(now - 1), 0);
+        sweep_call("sweep, the shift after", HOLDER, 0, now > 1);
+        sweep_call("sweep, again", HOLDER, 0, 0);
+    }
+    same("sweep, every shift", "shift and loans left", loans_due[0], RIGHTS_SHIFT_MAX * 65536 + 2);
+}
+
+/* From shift 0 to 100, to 201 and to 255: 99, 101 and 54 loans, and two are left. */
+static void sweep_jumps(void)
+{
+    static const uint32_t shifts[] = {0, 100, 201, RIGHTS_SHIFT_MAX}, counts[] = {0, 99, 101, 54};
+    uint32_t last = 1;
+    sweep_lasts();
+    for (unsigned k = 0; k < 4; k++) {
+        chains_shift(shifts[k]);
+        for (; last < shifts[k]; last++)
+            loans_loan(sweep_of_last(last), 0);
+        sweep_call("sweep, some shifts later", HOLDER, 0, counts[k]);
+        sweep_call("sweep, again", HOLDER, 0, 0);
+    }
+    same("sweep, some shifts later", "shift and loans left", loans_due[0], RIGHTS_SHIFT_MAX * 65536 + 2);
+}
+
+/* Any item that lives may: the root, one with no grant at all, one whose loan ends and one whose does not, a drawer, item 63. */
+static void sweep_anybody(void)
+{
+    static const uint32_t persons[] = {ROOT, OWNER, HOLDER, BORROWER, DRAWER, RIGHTS_ITEM_MAX};
+    chains_anew();
+    chains_create(ROOT, RIGHTS_ITEM_MAX);
+    chains_drop(ROOT, ROOT, RIGHTS_ITEM_MAX, 0, 0);
+    chains_lend(BORROWER, HOLDER, DRAWER, RIGHT, LOAN_DEPTH, 0);
+    for (uint32_t k = 0; k < 6; k++) {
+        chains_lend(HOLDER, BORROWER, DRAWER, RIGHT, LOAN_DEPTH, k + 1);
+        chains_lend(RIGHTS_ITEM_MAX, ROOT, ROOT, RIGHTS_RIGHT_MAX, 0, k + 1);
+        chains_shift(k + 2);
+        loans_loan(loan(k + 1, HOLDER, DRAWER, RIGHT, BORROWER, LOAN_DEPTH), 0);
+        loans_loan(loan(k + 1, RIGHTS_ITEM_MAX, ROOT, RIGHTS_RIGHT_MAX, ROOT, 0), 0);
+        sweep_call("sweep, by anybody", persons[k], 0, 2);
+    }
+}
+
+/* A word of the loans is broken, and put back. 2 comes before 3 and 4. */
+static void sweep_broken(const char *call, uint32_t word, uint32_t content)
+{
+    const uint32_t before = loans[word];
+    loans[word] = loans_due[word] = content;
+    sweep_call(call, ROOT, 2, 0);
+    sweep_call(call, 64, 2, 0);
+    sweep_call(call, DEAD, 2, 0);
+    loans[word] = loans_due[word] = before;
+}
+
+/* A wrong length of either image. 1 comes before the others. */
+static void sweep_length(const char *call, uint8_t *lent_grants, size_t bytes, uint32_t *lent_loans, size_t words)
+{
+    uint32_t swept = UINT32_MAX;
+    returned(call, rights_chains_sweep(lent_grants, bytes, lent_loans, words, 64, &swept), 1);
+    same(call, "the count", swept, 0);
+}
+
+/* No element, and one more than the images have. */
+static void sweep_lengths(void)
+{
+    static uint8_t more_grants[RIGHTS_GRANTS_BYTES + 1];
+    static uint32_t more_loans[RIGHTS_LOANS_WORDS + 1];
+    memcpy(more_grants, grants, sizeof grants);
+    memcpy(more_loans, loans, sizeof loans);
+    sweep_length("sweep, no byte", grants, 0, loans, RIGHTS_LOANS_WORDS);
+    sweep_length("sweep, no word", grants, RIGHTS_GRANTS_BYTES, loans, 0);
+    sweep_length("sweep, one byte more", more_grants, RIGHTS_GRANTS_BYTES + 1, loans, RIGHTS_LOANS_WORDS);
+    sweep_length("sweep, one word more", grants, RIGHTS_GRANTS_BYTES, more_loans, RIGHTS_LOANS_WORDS + 1);
+    same_bytes("sweep, one byte more", "the grants", more_grants, grants_due, RIGHTS_GRANTS_BYTES);
+    same_bytes("sweep, one word more", "the loans", more_loans, loans_due, LOANS_SIZE);
+    same("sweep, one byte more", "the last byte", more_grants[RIGHTS_GRANTS_BYTES], 0);
+    same("sweep, one word more", "the last word", more_loans[RIGHTS_LOANS_WORDS], 0);
+}
+
+/* Two of four loans are past, and stand after each refusal. */
+static void sweep_refusals(void)
+{
+    chains_anew();
+    chains_lend(HOLDER, BORROWER, DRAWER, RIGHT, LOAN_DEPTH, 0);
+    chains_lend(HOLDER, BORROWER, DRAWER, RIGHT, LOAN_DEPTH, 1);
+    chains_lend(HOLDER, BORROWER, DRAWER, RIGHT, LOAN_DEPTH, LAST - 1);
+    chains_lend(HOLDER, BORROWER, DRAWER, RIGHT, LOAN_DEPTH, LAST);
+    chains_shift(LAST);
+    sweep_call("sweep, by 64", 64, 3, 0);
+    sweep_call("sweep, by 75", HOLDER + 64, 3, 0);
+    sweep_call("sweep, by 256", 256, 3, 0);
+    sweep_call("sweep, by 65536", 65536, 3, 0);
+    sweep_call("sweep, by 2147483648", 2147483648u, 3, 0);
+    sweep_call("sweep, by 4294967295", UINT32_MAX, 3, 0);
+    sweep_call("sweep, by dead", DEAD, 4, 0);
+    sweep_call("sweep, by 1, dead", 1, 4, 0);
+    sweep_call("sweep, by 63, dead", RIGHTS_ITEM_MAX, 4, 0);
+    sweep_broken("sweep, one loan uncounted", 0, LAST * 65536 + 3);
+    sweep_broken("sweep, one loan too many counted", 0, LAST * 65536 + 5);
+    sweep_broken("sweep, 1,025 loans", 0, LAST * 65536 + RIGHTS_LOANS_MAX + 1);
+    sweep_broken("sweep, shift 256", 0, BEYOND * 65536 + 4);
+    sweep_broken("sweep, a loan twice", 3, loans[2]);
+    sweep_broken("sweep, a past loan of right 0", 3, loan(LAST - 1, HOLDER, DRAWER, 0, BORROWER, LOAN_DEPTH));
+    sweep_broken("sweep, a past loan by a dead item", 3, loan(LAST - 1, DEAD, DRAWER, RIGHT, BORROWER, LOAN_DEPTH));
+    sweep_broken("sweep, a past loan on a dead item", 3, loan(LAST - 1, HOLDER, DEAD, RIGHT, BORROWER, LOAN_DEPTH));
+    sweep_broken("sweep, a past loan to a dead item", 3, loan(LAST - 1, HOLDER, DRAWER, RIGHT, DEAD, LOAN_DEPTH));
+    sweep_broken("sweep, a word after the end", RIGHTS_LOANS_MAX, loan(LAST, HOLDER, DRAWER, RIGHT, BORROWER, 7));
+    grants[0] = (uint8_t)(grants_due[0] &= 0xfe);
+    sweep_call("sweep, the root item dead", OWNER, 2, 0);
+    grants[0] = (uint8_t)(grants_due[0] |= 1);
+    sweep_lengths();
+    loans_loan(loan(1, HOLDER, DRAWER, RIGHT, BORROWER, LOAN_DEPTH), 0);
+    loans_loan(loan(LAST - 1, HOLDER, DRAWER, RIGHT, BORROWER, LOAN_DEPTH), 0);
+    sweep_call("sweep, after the refusals", OWNER, 0, 2);
+}
+
+/*
+ * A past loan bars a lower shift, and swept no longer; one in its last shift still does. What a sweep ended is not brought back by the
+ * shift, a recall of it ends nothing, and lent anew it is a loan as any other.
+ */
+static void sweep_way_back(void)
+{
+    chains_anew();
+    chains_allow(HOLDER, DRAWER, RIGHT, DEPTH);
+    chains_lend(HOLDER, BORROWER, DRAWER, RIGHT, LOAN_DEPTH, LAST - 1);
+    chains_lend(HOLDER, OWNER, DRAWER, RIGHT, LOAN_DEPTH, LAST);
+    chains_shift(LAST);
+    returned("chains shift, before a sweep", rights_chains_shift(UNIT, ROOT, LAST - 1), 12);
+    loans_loan(loan(LAST - 1, HOLDER, DRAWER, RIGHT, BORROWER, LOAN_DEPTH), 0);
+    sweep_call("sweep, the first past", DRAWER, 0, 1);
+    returned("chains shift, a last shift stands", rights_chains_shift(UNIT, ROOT, LAST - 1), 12);
+    returned("chains lend, what was swept", rights_chains_lend(UNIT, HOLDER, BORROWER, DRAWER, RIGHT, LOAN_DEPTH, LAST - 1), 13);
+    returned("chains recall, what was swept", rights_chains_recall(UNIT, HOLDER, BORROWER, DRAWER, RIGHT, LOAN_DEPTH, LAST - 1), 0);
+    chains_shift(LAST + 1);
+    returned("chains shift, before a sweep", rights_chains_shift(UNIT, ROOT, LAST), 12);
+    loans_loan(loan(LAST, HOLDER, DRAWER, RIGHT, OWNER, LOAN_DEPTH), 0);
+    sweep_call("sweep, the other", DRAWER, 0, 1);
+    chains_shift(LAST);
+    chains_shift(1);
+    chains_check("chains check, swept, in the shift of the loan", OWNER, 0, 0, nobody);
+    chains_lend(HOLDER, OWNER, DRAWER, RIGHT, LOAN_DEPTH, LAST);
+    chains_shift(LAST + 1);
+    loans_loan(loan(LAST, HOLDER, DRAWER, RIGHT, OWNER, LOAN_DEPTH), 0);
+    sweep_call("sweep, lent anew", DRAWER, 0, 1);
+}
+
+/* The loans of a table, rising with n from 0 to 1,023 for each last shift: the least and the greatest of each field among them. */
+static uint32_t sweep_loan(uint32_t n, uint32_t last)
+{
+    static const uint32_t persons[] = {ROOT, OWNER, BORROWER, RIGHTS_ITEM_MAX}, rights[] = {1, RIGHT, SET_RIGHT, RIGHTS_RIGHT_MAX};
+    return loan(last, persons[n / 256], n / 128 % 2 * RIGHTS_ITEM_MAX, rights[n / 32 % 4], persons[n / 8 % 4], n % 8);
+}
+
+enum { SWEPT_AT = 7 };
+
+/* So many loans that are open-ended, past in shift 7, and with last shifts from 7 to 255: the table in shift 7. */
+static void sweep_due(uint32_t open, uint32_t past, uint32_t later)
+{
+    uint32_t place = 0;
+    memset(loans_due, 0, sizeof loans_due);
+    for (uint32_t n = 0; n < open; n++)
+        loans_due[++place] = sweep_loan(n, 0);
+    for (uint32_t n = 0; n < past; n++)
+        loans_due[++place] = sweep_loan(n, 1 + n * (SWEPT_AT - 1) / past);
+    for (uint32_t n = 0; n < later; n++)
+        loans_due[++place] = sweep_loan(n, SWEPT_AT + n * (BEYOND - SWEPT_AT) / later);
+    loans_due[0] = SWEPT_AT * 65536 + place;
+}
+
+/* Such a table swept: a full one has no room before, and has it after unless nothing was past. */
+static void sweep_table(uint32_t open, uint32_t past, uint32_t later)
+{
+    const int full = open + past + later == RIGHTS_LOANS_MAX;
+    sweep_due(open, past, later);
+    memcpy(loans, loans_due, sizeof loans);
+    if (full)
+        returned("chains lend, a full table", rights_chains_lend(UNIT, HOLDER, HOLDER, DRAWER, RIGHT, DEPTH, 0), 10);
+    sweep_due(open, 0, later);
+    sweep_call("sweep, a table", OWNER, 0, past);
+    sweep_call("sweep, a table again", OWNER, 0, 0);
+    if (full && past == 0)
+        returned("chains lend, nothing swept", rights_chains_lend(UNIT, HOLDER, HOLDER, DRAWER, RIGHT, DEPTH, 0), 10);
+    if (full && past > 0)
+        chains_lend(HOLDER, HOLDER, DRAWER, RIGHT, DEPTH, 0);
+    if (full && past == 1)
+        returned("chains lend, the room taken", rights_chains_lend(UNIT, HOLDER, HOLDER, DRAWER, RIGHT, 1, 0), 10);
+}
+
+/* Few loans and many of each kind, none, and tables that the later ones fill; all 1,024 past among them. */
+static void sweep_tables(void)
+{
+    static const uint32_t sizes[] = {0, 1, 2, 7, 8, 9, 64, 511, 512, 513, 1022, 1023, 1024};
+    enum { SIZES = sizeof sizes / sizeof sizes[0] };
+    chains_anew();
+    chains_create(ROOT, RIGHTS_ITEM_MAX);
+    for (unsigned k = 0; k < SIZES * SIZES * SIZES; k++) {
+        const uint32_t open = sizes[k / SIZES / SIZES], past = sizes[k / SIZES % SIZES], later = sizes[k % SIZES];
+        if (open + past + later <= RIGHTS_LOANS_MAX)
+            sweep_table(open, past, later);
+        if (later == 0 && open + past <= RIGHTS_LOANS_MAX)
+            sweep_table(open, past, RIGHTS_LOANS_MAX - open - past);
+    }
+}
+
+static const uint32_t sweep_shifts[] = {5, 6, 7, 8, 9, RIGHTS_SHIFT_MAX};
+enum { SWEEP_SHIFTS = sizeof sweep_shifts / sizeof sweep_shifts[0] };
+
+/* The answers of a copy in each of these shifts: what every person has, its depth and its number of persons. */
+static void sweep_answers(uint8_t answers[SWEEP_SHIFTS][64][2])
+{
+    static uint8_t copy[RIGHTS_GRANTS_BYTES];
+    static uint32_t copied[RIGHTS_LOANS_WORDS];
+    memcpy(copy, grants, sizeof grants);
+    memcpy(copied, loans, sizeof loans);
+    for (unsigned k = 0; k < SWEEP_SHIFTS; k++) {
+        same("sweep, a shift of the copy", "the number",
+             rights_chains_shift(copy, RIGHTS_GRANTS_BYTES, copied, RIGHTS_LOANS_WORDS, ROOT, sweep_shifts[k]), 0);
+        for (uint32_t who = 0; who < 64; who++) {
+            uint8_t chain[RIGHTS_CHAIN_PERSONS];
+            uint32_t depth = 77, persons = 77;
+            same("sweep, a check of the copy", "the number",
+                 rights_chains_check(copy, RIGHTS_GRANTS_BYTES, copied, RIGHTS_LOANS_WORDS, who, DRAWER, RIGHT, chain,
+                                     RIGHTS_CHAIN_PERSONS, &depth, &persons), 0);
+            answers[k][who][0] = (uint8_t)depth;
+            answers[k][who][1] = (uint8_t)persons;
+        }
+    }
+}
+
+/* The last shift of the n-th of 81 loans, among nine persons: each from 0 to 8 comes nine times. */
+static uint32_t sweep_last(uint32_t n) { return (n / 9 + 2 * (n % 9)) % 9; }
+
+/* In shift 5 four times nine of these are past, and no answer rests on them. */
+static void sweep_checks(void)
+{
+    static uint8_t before[SWEEP_SHIFTS][64][2], after[SWEEP_SHIFTS][64][2];
+    fewest_start();
+    fewest_allow(31, 7);
+    fewest_allow(35, 3);
+    for (uint32_t n = 0; n < 81; n++)
+        chains_lend(31 + n / 9, 31 + n % 9, DRAWER, RIGHT, n * 5 % 8, sweep_last(n));
+    chains_shift(sweep_shifts[0]);
+    sweep_answers(before);
+    for (uint32_t n = 0; n < 81; n++)
+        if (sweep_last(n) >= 1 && sweep_last(n) <= 4)
+            loans_loan(loan(sweep_last(n), 31 + n / 9, DRAWER, RIGHT, 31 + n % 9, n * 5 % 8), 0);
+    sweep_call("sweep, among nine persons", 39, 0, 36);
+    sweep_answers(after);
+    same_bytes("sweep, among nine persons", "the answers in this shift and in later ones", after, before, sizeof after);
+    same("sweep, among nine persons", "that the next shift has other answers", memcmp(after[0], after[1], sizeof after[0]) != 0, 1);
+}
+
+/* The short way ends, and the long one, open-ended, is given before the sweep and after it; in shift 3 the deeper loan is left. */
+static void sweep_ways(void)
+{
+    fewest_start();
+    fewest_allow(31, 4);
+    fewest_lend(31, 32, 3);
+    fewest_lend(32, 33, 2);
+    chains_lend(31, 33, DRAWER, RIGHT, 2, 1);
+    chains_lend(31, 34, DRAWER, RIGHT, 3, 3);
+    chains_lend(31, 34, DRAWER, RIGHT, 1, 2);
+    fewest_check("sweep, the short way", 33, 2, "31,33");
+    chains_shift(3);
+    fewest_check("sweep, the long way", 33, 2, "31,32,33");
+    fewest_check("sweep, in its last shift", 34, 3, "31,34");
+    loans_loan(loan(1, 31, DRAWER, RIGHT, 33, 2), 0);
+    loans_loan(loan(2, 31, DRAWER, RIGHT, 34, 1), 0);
+    sweep_call("sweep, of five loans two", 33, 0, 2);
+    fewest_check("sweep, the long way after it", 33, 2, "31,32,33");
+    fewest_check("sweep, in its last shift after it", 34, 3, "31,34");
+    chains_shift(4);
+    fewest_check("sweep, in the shift after it", 34, 0, "-");
+    fewest_check("sweep, the long way in the shift after it", 33, 2, "31,32,33");
+    loans_loan(loan(3, 31, DRAWER, RIGHT, 34, 3), 0);
+    sweep_call("sweep, the last of them", 33, 0, 1);
+    grants_grant(31, DRAWER, RIGHT, 4, 0);
+    loans_loan(loan(0, 31, DRAWER, RIGHT, 32, 3), 0);
+    returned("chains withdraw, after a sweep", rights_chains_withdraw(UNIT, ROOT, 31, DRAWER, RIGHT), 0);
+}
+
 /* ---- the ticket unit. Its tickets lie at places, and their numbers are those of the calls that issued them. */
 
 #define TICKETS tickets, RIGHTS_TICKETS_WORDS
@@ -1547,6 +1872,15 @@ int main(void)
     fewest_several();
     fewest_crowded();
     fewest_limits();
+    sweep_none();
+    sweep_each_shift();
+    sweep_jumps();
+    sweep_anybody();
+    sweep_refusals();
+    sweep_way_back();
+    sweep_tables();
+    sweep_checks();
+    sweep_ways();
     tickets_start();
     tickets_answers();
     tickets_records();

@@ -29,7 +29,7 @@ static rights_ticket records[RIGHTS_TICKETS_MAX], looked_at;
 /* The set of every item but the dead one. */
 #define SET (~((uint64_t)1 << DEAD))
 
-static uint32_t number, yes, depth, persons, ticket;
+static uint32_t number, yes, depth, persons, swept, ticket;
 static uint64_t persons_set;
 static uint8_t chain[RIGHTS_CHAIN_PERSONS];
 
@@ -74,6 +74,7 @@ CALL(chains_drop, UNIT, 0, OTHER, DRAWER, RIGHT, OTHER)
 CALL(chains_lend, UNIT, LENDER, 0, DRAWER, RIGHT, 7, LAST)
 CALL(chains_recall, UNIT, LENDER, 0, DRAWER, RIGHT, 7, LAST)
 CALL(chains_shift, UNIT, 0, LAST)
+CALL(chains_sweep, UNIT, 0, &swept)
 CALL(chains_check, UNIT, 0, DRAWER, RIGHT, chain, RIGHTS_CHAIN_PERSONS, &depth, &persons)
 CALL(chains_inspect, UNIT)
 CALL(tickets_fresh, TICKETS)
@@ -99,7 +100,8 @@ static void tickets_at(void)
 
 /*
  * fresh stands last of its unit: it leaves nothing of the state that the others are measured on. drop and withdraw stand before allow
- * and allow_set: each ends the last grant of a lender, and its loans.
+ * and allow_set: each ends the last grant of a lender, and its loans. sweep stands after shift, which makes loans past, and after all
+ * that are measured beside them.
  */
 static const struct {
     const char *name;
@@ -114,11 +116,11 @@ static const struct {
     {"chains_lend", chains_lend}, {"chains_recall", chains_recall}, {"chains_drop", chains_drop},
     {"chains_withdraw", chains_withdraw}, {"chains_allow", chains_allow}, {"chains_allow_set", chains_allow_set},
     {"chains_create", chains_create}, {"chains_delete", chains_delete}, {"chains_shift", chains_shift},
-    {"chains_fresh", chains_fresh}, {"tickets_inspect", tickets_inspect}, {"tickets_check", tickets_check},
-    {"tickets_records", tickets_records}, {"tickets_at", tickets_at}, {"tickets_check_records", tickets_check_records},
-    {"tickets_pass", tickets_pass}, {"tickets_generate", tickets_generate}, {"tickets_create", tickets_create},
-    {"tickets_delete", tickets_delete}, {"tickets_remove", tickets_remove}, {"tickets_fresh", tickets_fresh}, {"version", version},
-    {"layout_date", layout_date},
+    {"chains_sweep", chains_sweep}, {"chains_fresh", chains_fresh}, {"tickets_inspect", tickets_inspect},
+    {"tickets_check", tickets_check}, {"tickets_records", tickets_records}, {"tickets_at", tickets_at},
+    {"tickets_check_records", tickets_check_records}, {"tickets_pass", tickets_pass}, {"tickets_generate", tickets_generate},
+    {"tickets_create", tickets_create}, {"tickets_delete", tickets_delete}, {"tickets_remove", tickets_remove},
+    {"tickets_fresh", tickets_fresh}, {"version", version}, {"layout_date", layout_date},
 };
 enum { CALLS = sizeof calls / sizeof calls[0] };
 
