@@ -347,7 +347,8 @@ impl Chains {
     /// Lends the right on the item from `by` to `to` at the depth, also where `by` holds none yet.
     /// The loan carries up to and in its `last` shift; with `Shift(0)` it is open-ended. The same
     /// loan with another `last` is another loan. It stands until it is recalled, an item that it
-    /// names is deleted, or the last grant that `by` has there is withdrawn or dropped.
+    /// names is deleted, the last grant that `by` has there is withdrawn or dropped, or it is past
+    /// and [swept](Self::sweep).
     pub fn lend(
         &mut self,
         by: Item,
@@ -376,8 +377,8 @@ impl Chains {
     }
 
     /// Sets the present shift, where `by` may edit item 0. A loan that is past its last shift
-    /// stands and counts as any other does, but no chain uses it. The shift may start again lower
-    /// once no loan with a last shift stands.
+    /// stands and counts as any other does until it is [swept](Self::sweep), but no chain uses it.
+    /// The shift may start again lower once no loan with a last shift stands.
     ///
     /// ```
     /// use rights::{Chains, Depth, Item, Refusal, Right, Shift};
@@ -398,6 +399,43 @@ impl Chains {
     /// ```
     pub fn shift(&mut self, by: Item, now: Shift) -> Result<(), Refusal> {
         answer(lent::chains::shift(&mut self.grants, &mut self.loans, by.0, now.0))
+    }
+
+    /// Ends every loan that is past its last shift: how many there were, which may be none. Any
+    /// living item may sweep. Loans in their last shift, with a later one or open-ended stay, and no
+    /// check changes its yes or no, its depth or its number of persons, now or at a later shift.
+    ///
+    /// A table full of past shifts has room again, and the shift may go back:
+    ///
+    /// ```
+    /// use rights::{Chains, Depth, Item, Refusal, Right, Shift};
+    ///
+    /// let mut unit = Chains::fresh();
+    /// let (house, relief) = (Item(0), Item(4));
+    /// unit.create(house, relief)?;
+    /// // Each shift's loans of right 1 on item 4, one at each depth.
+    /// for n in 0..rights::LOANS_MAX {
+    ///     let last = Shift(1 + n / 8);
+    ///     unit.lend(house, relief, relief, Right(1), Depth(n % 8), last)?;
+    /// }
+    /// unit.shift(house, Shift(129))?;
+    /// let lend_tonight = |unit: &mut Chains| {
+    ///     unit.lend(house, relief, relief, Right(1), Depth(0), Shift(129))
+    /// };
+    /// assert_eq!(lend_tonight(&mut unit), Err(Refusal::Full));
+    /// assert_eq!(unit.shift(house, Shift(1)), Err(Refusal::ShiftBack));
+    ///
+    /// assert_eq!(unit.sweep(relief), Ok(1_024));
+    /// assert_eq!(unit.sweep(relief), Ok(0));
+    /// assert_eq!(unit.clone().shift(house, Shift(1)), Ok(()));
+    /// assert_eq!(lend_tonight(&mut unit), Ok(()));
+    /// assert_eq!(unit.sweep(Item(5)), Err(Refusal::ByDead));
+    /// # Ok::<(), Refusal>(())
+    /// ```
+    pub fn sweep(&mut self, by: Item) -> Result<u32, Refusal> {
+        let (number, swept) = lent::chains::sweep(&mut self.grants, &mut self.loans, by.0);
+        answer(number)?;
+        Ok(swept)
     }
 
     /// Whether a chain of grants and carrying loans gives `who` the right on the item, with the

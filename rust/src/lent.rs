@@ -216,8 +216,12 @@ pub mod convert {
 /// assert_eq!(chains::shift(&mut grants, &mut loans, 0, 3), 0);
 /// assert_eq!(loans[0], (3 << 16) + 1);
 /// assert_eq!(chains::shift(&mut grants, &mut loans, 0, 2), rights::SHIFT_BACK);
-/// assert_eq!(chains::recall(&mut grants, &mut loans, 0, 9, 9, 1, 0, 2), 0);
+/// assert_eq!(chains::sweep(&mut grants, &mut loans, 9), (0, 1));
 /// assert_eq!(loans[0], 3 << 16);
+/// assert_eq!(chains::shift(&mut grants, &mut loans, 0, 2), 0);
+/// assert_eq!(chains::lend(&mut grants, &mut loans, 0, 9, 9, 1, 0, 2), 0);
+/// assert_eq!(chains::recall(&mut grants, &mut loans, 0, 9, 9, 1, 0, 2), 0);
+/// assert_eq!(loans[0], 2 << 16);
 /// assert_eq!(chains::drop(&mut grants, &mut loans, 0, 9, 9, 1, 3), 0);
 /// assert_eq!(grants[8 + 512 * 9 + 64..][..10], [1 << 3, 0, 0, 0, 0, 0, 0, 0, 0, 0]);
 /// loans[0] = 1;
@@ -311,6 +315,17 @@ pub mod chains {
         /// shift (by, now); `now` becomes the present shift.
         shift, rights_chains_shift, by: u32, now: u32
     );
+
+    /// sweep (by): the number, and how many loans were past their last shift and have ended, 0
+    /// beside a refusal.
+    #[must_use]
+    pub fn sweep(grants: &mut [u8], loans: &mut [u32], by: u32) -> (u32, u32) {
+        let mut swept = u32::MAX;
+        let (at, length) = (grants.as_mut_ptr(), grants.len());
+        let (table, words) = (loans.as_mut_ptr(), loans.len());
+        let number = unsafe { ffi::rights_chains_sweep(at, length, table, words, by, &mut swept) };
+        (number, swept)
+    }
 
     /// check (who, on, right), with a buffer of [`CHAIN_PERSONS`](crate::CHAIN_PERSONS) bytes for
     /// the chain: one with the greatest depth of any and, among those, the fewest persons. Which of

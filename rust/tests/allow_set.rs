@@ -51,7 +51,7 @@ impl Units {
     #[track_caller]
     fn give(&mut self, commands: &[Command]) {
         for &command in commands {
-            assert_eq!(self.journal.give(command), 0, "{command:?}");
+            assert_eq!(self.journal.give(command), (0, 0), "{command:?}");
             self.images.give(command, 0);
             self.images.compare(&Images::of(&self.journal));
         }

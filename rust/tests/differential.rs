@@ -13,8 +13,8 @@ use generator::{seed, Bias, Generator, Trace, BIASES};
 use images::Images;
 use judge::{flat_answer, judge_chain};
 use model::{
-    image_of, loans_image, BestChain, Command, GrantLayout, Journal, Journals, Layout, ListLayout,
-    RowLayout,
+    head_of, image_of, loans_image, BestChain, Command, GrantLayout, Head, Journal, Journals,
+    Layout, ListLayout, RowLayout,
 };
 use rights::lent;
 use situations::Situations;
@@ -43,8 +43,8 @@ impl Counts {
     }
 
     /// Every number of a command, every depth and every length of a chain came up, and every situation
-    /// that shifts, sets of items, drops, withdrawn lenders, the loans of a check and the choice among
-    /// its chains are about.
+    /// that shifts, sets of items, drops, withdrawn lenders, sweeps, the loans of a check and the choice
+    /// among its chains are about.
     fn assert_broad(&self) {
         let given = [0, 3, 4, 5, 6, 7, 8, 9, 10, 12, 13, 14];
         assert!(given.iter().all(|&n| self.numbers[n] > 0), "numbers {:?}", self.numbers);
@@ -88,6 +88,7 @@ impl Run {
         let done = numbers.chains == 0;
         self.without_drop &= !(done && matches!(command, Command::Drop { .. }));
         let drops = if done { self.drops_of(command) } else { None };
+        let swept = (numbers.count > 0).then(|| Swept::new(&self.journals.chains, &self.images));
         assert_eq!(self.journals.give(command), numbers);
         if done || numbers.flat == Some(0) {
             self.expected = Images::of_both(&self.journals);
@@ -96,6 +97,9 @@ impl Run {
         self.images.compare(&self.expected);
         if let Some((grants, loans)) = drops {
             assert!(grants == self.images.grants && loans == self.images.loans, "{command:?}");
+        }
+        if let Some(before) = swept {
+            self.checks_stay(&before, numbers.count);
         }
         self.counts.commands += 1;
         self.counts.numbers[numbers.chains as usize] += 1;
@@ -110,9 +114,9 @@ impl Run {
         let mut journal = self.journals.chains.clone();
         let (mut grants, mut loans) = (self.images.grants.clone(), self.images.loans.clone());
         let give = |drop| {
-            let number = journal.give(drop);
-            assert_eq!(give_chains(&mut grants, &mut loans, drop), number, "{drop:?}");
-            number
+            let returned = journal.give(drop);
+            assert_eq!(give_chains(&mut grants, &mut loans, drop), returned, "{drop:?}");
+            returned.0
         };
         let numbers: Vec<u32> = command.single_drops().into_iter().map(give).collect();
         let left = (image_of::<GrantLayout>(&journal), loans_image(&journal));
@@ -122,6 +126,37 @@ impl Run {
             (chains.depths(to, on, right).count(), chains.made(to, on, right).count());
         self.counts.situations.withdraw(depths, loans, &numbers);
         Some(left).filter(|_| numbers == [0; 8])
+    }
+
+    /// "Loans before = loans after + that count, and no check with all else equal, at this shift number
+    /// or a higher one, changes its yes, no or depth", nor its number of persons: every person on the
+    /// item and right of a loan that a sweep has ended, in the present shift and in later ones.
+    fn checks_stay(&mut self, before: &Swept, count: u32) {
+        let after = &self.images.loans;
+        assert_eq!(head_of(&before.loans).count, head_of(after).count + count as usize);
+        let random = &mut self.generator.random;
+        let ended = before.journal.past().nth(random.below(count) as usize).expect("a past loan");
+        let (on, right) = (ended.item, ended.right);
+        let present = before.journal.shift;
+        let later = present + random.below(256 - present);
+        let best = |shift| before.journal.best_chains_in(shift, on, right);
+        let (now, all) = (best(present), best(0));
+        for shift in [present, (present + 1).min(255), later, 255] {
+            let (one, other) = (in_shift(&before.loans, shift), in_shift(after, shift));
+            let then = best(shift);
+            for who in 0..64 {
+                let question = (who, on, right);
+                let grants = &self.images.grants;
+                let checked = check_chains(grants, &one, question, &mut [7; 8]);
+                let stays = check_chains(grants, &other, question, &mut [7; 8]);
+                assert_eq!(stays, checked, "{question:?} in shift {shift}");
+                let due = then[who as usize].map_or((0, 0), |best| (best.allowance, best.persons));
+                assert_eq!((stays.depth, stays.persons), due, "{question:?} in shift {shift}");
+                self.counts.checks += 2;
+                let who = who as usize;
+                self.counts.situations.stays([now[who], all[who], then[who]]);
+            }
+        }
     }
 
     /// Checks of a few questions; no check changes an image.
@@ -196,6 +231,25 @@ impl Run {
     }
 }
 
+/// The journal and the loans before a sweep.
+struct Swept {
+    journal: Journal,
+    loans: Vec<u32>,
+}
+
+impl Swept {
+    fn new(journal: &Journal, images: &Images) -> Self {
+        Self { journal: journal.clone(), loans: images.loans.clone() }
+    }
+}
+
+/// The image of the same loans in that shift.
+fn in_shift(loans: &[u32], shift: u32) -> Vec<u32> {
+    let mut image = loans.to_vec();
+    image[0] = Head { shift, ..head_of(loans) }.word();
+    image
+}
+
 fn whole_flat<U: Flat>(image: &[U::Cell], other: &[<U::Other as Layout>::Cell], journal: &Journal) {
     assert_eq!(U::inspect(image), 0, "{}", U::NAME);
     assert_eq!(U::subjects(image), (0, journal.subjects()), "subjects of {}", U::NAME);
@@ -241,14 +295,14 @@ fn lists_of_every_bias(commands: u64, everything_each: u64) -> Counts {
 
 #[test]
 fn short() {
-    lists_of_every_bias(1_000, 4).assert_broad();
+    lists_of_every_bias(2_000, 4).assert_broad();
 }
 
 /// Ten million commands.
 #[test]
 #[ignore = "takes minutes"]
 fn long() {
-    let counts = lists_of_every_bias(600_000, 50);
+    let counts = lists_of_every_bias(540_000, 50);
     counts.assert_broad();
     assert!(counts.commands >= 10_000_000);
 }

@@ -36,14 +36,14 @@ impl Units {
     fn give(&mut self, commands: &[Command]) {
         for &command in commands {
             let flat = Some(0).filter(|_| command.is_flat());
-            self.answer(command, Numbers { chains: 0, flat });
+            self.answer(command, Numbers::counting_nothing(0, flat));
         }
     }
 
     /// Lists and rows answer with one number, and the chain unit with the other.
     #[track_caller]
     fn part(&mut self, command: Command, flat: u32, chains: u32) {
-        self.answer(command, Numbers { chains, flat: Some(flat) });
+        self.answer(command, Numbers::counting_nothing(chains, Some(flat)));
     }
 
     #[track_caller]
@@ -345,7 +345,7 @@ fn refusals_are_withdraws() {
         let (by, to, on) = (items[n % 7], items[n / 7 % 7], items[n / 49 % 7]);
         let right = [0, 1, 7, 8][n / 343];
         let Unit { mut grants, mut loans } = unit.clone();
-        let number = give_chains(&mut grants, &mut loans, withdraw(by, to, on, right));
+        let (number, _) = give_chains(&mut grants, &mut loans, withdraw(by, to, on, right));
         numbers[number as usize] += 1;
         (0..8).for_each(|depth| unit.clone().give(number, &[drop(by, to, on, right, depth)]));
         unit.give(3, &[drop(by, to, on, right, 8), drop(by, to, on, right, u32::MAX)]);

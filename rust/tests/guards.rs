@@ -132,6 +132,30 @@ fn chains() {
     }
 }
 
+/// sweep, by the raw declaration: the count, with the past loan at item 0 in shift 6; by 0, by 1, who is
+/// dead, by 64, and with a length of 0.
+#[test]
+fn swept() {
+    let mut journal = Journal { shift: 6, ..state() };
+    journal.loans.insert(Loan { lender: 0, item: 0, right: 1, borrower: 0, depth: 1, last: 5 });
+    let (grants, loans) = (image_of::<GrantLayout>(&journal), loans_image(&journal));
+    for side in SIDES {
+        for (words, by, number, said) in
+            [(1025, 0, 0, 1), (1025, 1, 4, 0), (1025, 64, 3, 0), (0, 0, 1, 0)]
+        {
+            let (mut grants, mut loans) = (grants.clone(), loans.clone());
+            let mut swept = Guarded::new(&[9u32], side);
+            let (at, length) = (grants.as_mut_ptr(), grants.len());
+            let table = loans.as_mut_ptr();
+            // SAFETY: pointers to two images, with their lengths or less, and to a number.
+            let given =
+                unsafe { ffi::rights_chains_sweep(at, length, table, words, by, swept.pointer()) };
+            assert_eq!(given, number);
+            swept.assert_holds(&[said], "a sweep");
+        }
+    }
+}
+
 /// The ticket unit's check, that over records, and generate, by the raw declarations.
 #[test]
 fn tickets() {

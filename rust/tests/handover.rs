@@ -169,3 +169,29 @@ fn starts_clean() {
     assert_eq!(unit.drop_grant(Item(0), Item(3), ON, RIGHT, Depth(2)), Ok(()));
     assert_eq!(unit.loans()[0], 1);
 }
+
+/// K8: a loan for shift 3 and one for shift 4 are forgotten. In shift 4 one is past: a sweep, by 5, who may
+/// edit nothing, ends it as its recall would, and no answer changes. The shift goes back once both have
+/// ended.
+#[test]
+fn swept_loans() {
+    let mut unit = base();
+    for last in [3, 4] {
+        assert_eq!(unit.lend(Item(4), Item(0), ON, RIGHT, Depth(0), Shift(last)), Ok(()));
+    }
+    assert_eq!(unit.shift(Item(0), Shift(4)), Ok(()));
+    let mut recalled = unit.clone();
+    assert_eq!(recalled.recall(Item(4), Item(0), ON, RIGHT, Depth(0), Shift(3)), Ok(()));
+    let answers = |unit: &Chains| [0, 3, 4, 5, 9].map(|who| check(unit, who));
+    let before = answers(&unit);
+    assert_eq!(unit.sweep(Item(7)), Err(Refusal::ByDead));
+    assert_eq!(unit.sweep(Item(64)), Err(Refusal::OutOfRange));
+    assert_eq!(unit.sweep(Item(5)), Ok(1));
+    assert_eq!(unit, recalled);
+    assert_eq!(answers(&unit), before);
+    assert_eq!(before[0], Some((0, vec![3, 4, 0])));
+    assert_eq!(unit.shift(Item(0), Shift(3)), Err(Refusal::ShiftBack));
+    assert_eq!(unit.shift(Item(0), Shift(5)), Ok(()));
+    assert_eq!(unit.sweep(Item(5)), Ok(1));
+    assert_eq!(unit.shift(Item(0), Shift(3)), Ok(()));
+}

@@ -8,7 +8,7 @@ use std::collections::BTreeSet;
 
 use generator::Random;
 use model::commands::{
-    allow, allow_set, create, delete, drop, lend, recall, shift, withdraw, BASE,
+    allow, allow_set, create, delete, drop, lend, recall, shift, sweep, withdraw, BASE,
 };
 use model::{
     head_of, loan_of, loans_image, loans_in_order, names_nobody_twice, word_of, BestChain, Command,
@@ -22,7 +22,7 @@ const RIGHT: u32 = 1;
 fn base() -> Journal {
     let mut journal = Journal::fresh();
     for command in BASE {
-        assert_eq!(journal.give(command), 0);
+        assert_eq!(journal.give(command), (0, 0));
     }
     journal
 }
@@ -44,20 +44,20 @@ fn checks_e1_to_e3() {
 #[test]
 fn changes_e4_to_e7() {
     let mut e4 = base();
-    assert_eq!(e4.give(recall(3, 4, ON, RIGHT, 0, 0)), 0);
+    assert_eq!(e4.give(recall(3, 4, ON, RIGHT, 0, 0)), (0, 0));
     assert_eq!(best(&e4, 4), Some(1));
     let mut e5 = base();
-    assert_eq!(e5.give(withdraw(0, 3, ON, RIGHT)), 0);
+    assert_eq!(e5.give(withdraw(0, 3, ON, RIGHT)), (0, 0));
     assert_eq!(best(&e5, 5), None);
-    assert_eq!(e5.give(allow(0, 3, ON, RIGHT, 1)), 0);
+    assert_eq!(e5.give(allow(0, 3, ON, RIGHT, 1)), (0, 0));
     assert_eq!((best(&e5, 3), best(&e5, 4), best(&e5, 5)), (Some(1), None, None));
     let mut e6 = base();
-    assert_eq!(e6.give(lend(3, 5, ON, RIGHT, 5, 0)), 0);
+    assert_eq!(e6.give(lend(3, 5, ON, RIGHT, 5, 0)), (0, 0));
     assert_eq!(best(&e6, 5), Some(1));
     assert_eq!(e6.through(&[3, 5], ON, RIGHT), Some(1));
     let mut e7 = base();
-    assert_eq!(e7.give(delete(0, 4)), 0);
-    assert_eq!(e7.give(create(0, 4)), 0);
+    assert_eq!(e7.give(delete(0, 4)), (0, 0));
+    assert_eq!(e7.give(create(0, 4)), (0, 0));
     assert_eq!(best(&e7, 4), None);
 }
 
@@ -65,7 +65,7 @@ fn changes_e4_to_e7() {
 #[test]
 fn depth_of_a_loan_binds() {
     let mut journal = base();
-    assert_eq!(journal.give(allow(0, 3, ON, RIGHT, 7)), 0);
+    assert_eq!(journal.give(allow(0, 3, ON, RIGHT, 7)), (0, 0));
     assert_eq!(best(&journal, 4), Some(1));
     assert_eq!(best(&journal, 5), Some(0));
 }
@@ -73,12 +73,12 @@ fn depth_of_a_loan_binds() {
 #[test]
 fn numbers_e8_to_e12() {
     let mut journal = base();
-    assert_eq!(journal.give(create(0, 63)), 0);
-    assert_eq!(journal.give(create(0, 64)), 3);
-    assert_eq!(journal.give(create(0, 3)), 6);
-    assert_eq!(journal.give(delete(3, 0)), 7);
-    assert_eq!(journal.give(allow(3, 4, ON, RIGHT, 0)), 8);
-    assert_eq!(journal.give(create(7, 3)), 4);
+    assert_eq!(journal.give(create(0, 63)), (0, 0));
+    assert_eq!(journal.give(create(0, 64)), (3, 0));
+    assert_eq!(journal.give(create(0, 3)), (6, 0));
+    assert_eq!(journal.give(delete(3, 0)), (7, 0));
+    assert_eq!(journal.give(allow(3, 4, ON, RIGHT, 0)), (8, 0));
+    assert_eq!(journal.give(create(7, 3)), (4, 0));
 }
 
 #[test]
@@ -88,12 +88,12 @@ fn full_e13() {
     let pairs = persons.iter().flat_map(|by| persons.iter().map(move |to| (*by, *to)));
     let on_keys = pairs.flat_map(|(by, to)| (2..8).map(move |right| (by, to, right)));
     let every = on_keys.flat_map(|(by, to, right)| (0..8).map(move |depth| (by, to, right, depth)));
-    let give = |(by, to, right, depth)| journal.give(lend(by, to, ON, right, depth, 0));
+    let give = |(by, to, right, depth)| journal.give(lend(by, to, ON, right, depth, 0)).0;
     let numbers: Vec<u32> = every.map(give).collect();
     assert_eq!(numbers[..1022], [0; 1022]);
     assert!(numbers[1022..].iter().all(|&number| number == 10));
     assert_eq!(journal.loans.len(), 1024);
-    assert_eq!(journal.give(lend(3, 4, ON, RIGHT, 1, 0)), 0);
+    assert_eq!(journal.give(lend(3, 4, ON, RIGHT, 1, 0)), (0, 0));
 }
 
 /// "The eight upper bits of a loan hold the last shift": 823,840 + 5 · 16,777,216 and + 255 · that.
@@ -111,7 +111,7 @@ fn loan_word() {
 fn loan_word_0() {
     assert_eq!(loans_image(&Journal::fresh())[0], 0);
     let mut journal = base();
-    assert_eq!(journal.give(shift(0, 3)), 0);
+    assert_eq!(journal.give(shift(0, 3)), (0, 0));
     let mut image = loans_image(&journal);
     assert_eq!(image[0], 196_610);
     assert_eq!(head_of(&image), Head { shift: 3, count: 2 });
@@ -137,9 +137,9 @@ fn carries() {
 #[test]
 fn chains_in_shifts() {
     let mut journal = base();
-    assert_eq!(journal.give(lend(3, 5, ON, RIGHT, 5, 5)), 0);
+    assert_eq!(journal.give(lend(3, 5, ON, RIGHT, 5, 5)), (0, 0));
     for (now, allowance, alone) in [(5, 1, Some(1)), (6, 0, None)] {
-        assert_eq!(journal.give(shift(0, now)), 0);
+        assert_eq!(journal.give(shift(0, now)), (0, 0));
         assert_eq!(best(&journal, 5), Some(allowance));
         assert_eq!(journal.through(&[3, 5], ON, RIGHT), alone);
     }
@@ -150,14 +150,14 @@ fn chains_in_shifts() {
 #[test]
 fn numbers_of_shift() {
     let mut journal = base();
-    assert_eq!(journal.give(lend(3, 4, ON, RIGHT, 1, 5)), 0);
-    let give = |journal: &mut Journal, by, now| journal.give(shift(by, now));
+    assert_eq!(journal.give(lend(3, 4, ON, RIGHT, 1, 5)), (0, 0));
+    let give = |journal: &mut Journal, by, now| journal.give(shift(by, now)).0;
     assert_eq!([255, 5, 6].map(|now| journal.answer(shift(0, now))), [0; 3]);
     assert_eq!(give(&mut journal, 0, 6), 0);
     assert_eq!([6, 5, 0].map(|now| give(&mut journal, 0, now)), [0, 12, 12]);
     assert_eq!([256, u32::MAX].map(|now| give(&mut journal, 64, now)), [3, 3]);
     assert_eq!([7, 64, 3].map(|by| give(&mut journal, by, 5)), [4, 3, 8]);
-    assert_eq!(journal.give(recall(3, 4, ON, RIGHT, 1, 5)), 0);
+    assert_eq!(journal.give(recall(3, 4, ON, RIGHT, 1, 5)), (0, 0));
     assert_eq!((give(&mut journal, 3, 5), give(&mut journal, 0, 5)), (8, 0));
     assert_eq!((journal.shift, journal.loans.len()), (5, 2));
 }
@@ -166,7 +166,7 @@ fn numbers_of_shift() {
 #[test]
 fn numbers_of_last() {
     let mut journal = base();
-    assert_eq!(journal.give(shift(0, 6)), 0);
+    assert_eq!(journal.give(shift(0, 6)), (0, 0));
     let of_right = |right, last| lend(3, 4, ON, right, 1, last);
     assert_eq!([0, 5, 6, 255, 256].map(|last| journal.answer(of_right(2, last))), [0, 13, 0, 0, 3]);
     assert_eq!(journal.answer(of_right(0, 5)), 9);
@@ -190,11 +190,67 @@ fn open_ended(count: u32) -> BTreeSet<Loan> {
 fn past_loans() {
     let mut journal = Journal { loans: open_ended(1023), ..base() };
     for command in [lend(3, 4, ON, 2, 1, 5), shift(0, 6)] {
-        assert_eq!(journal.give(command), 0);
+        assert_eq!(journal.give(command), (0, 0));
     }
     assert_eq!([5, 6, 0].map(|last| journal.answer(lend(3, 4, ON, 2, 1, last))), [13, 10, 10]);
-    assert_eq!((journal.dated().count(), journal.give(delete(0, 4))), (1, 0));
+    assert_eq!((journal.dated().count(), journal.give(delete(0, 4))), (1, (0, 0)));
     assert_eq!((journal.dated().count(), journal.shift), (0, 6));
+}
+
+/// K8: "ends all loans past their last shift .. and returns how many there were". In shift 6, of the base's
+/// two and loans with last shifts 1, 5, 6 and 255 two are past; a second sweep counts 0.
+#[test]
+fn sweep_ends_past_loans() {
+    let mut journal = base();
+    for last in [1, 5, 6, 255] {
+        assert_eq!(journal.give(lend(3, 4, ON, 2, 1, last)), (0, 0));
+    }
+    assert_eq!((journal.give(sweep(0)), journal.past().count()), ((0, 0), 0));
+    assert_eq!(journal.give(shift(0, 6)), (0, 0));
+    let before = journal.clone();
+    assert_eq!((journal.past().count(), journal.returns(sweep(5))), (2, (0, 2)));
+    assert_eq!(journal.give(sweep(5)), (0, 2));
+    assert_eq!(journal.dated().map(|loan| loan.last).collect::<Vec<u32>>(), [6, 255]);
+    assert_eq!((before.loans.len(), journal.loans.len()), (6, 4));
+    let Journal { loans, .. } = journal.clone();
+    assert_eq!(journal, Journal { loans, ..before });
+    assert_eq!((journal.returns(sweep(0)), journal.give(sweep(0))), ((0, 0), (0, 0)));
+}
+
+/// "(numbers 1 to 4)"; "Where this or any later call is refused, whatever else it returns is 0", and
+/// nothing changes: by 7, who is dead, and by 64. 5, who may edit nothing, may sweep.
+#[test]
+fn numbers_of_sweep() {
+    let mut journal = base();
+    for command in [lend(3, 4, ON, RIGHT, 1, 5), shift(0, 6)] {
+        assert_eq!(journal.give(command), (0, 0));
+    }
+    let before = journal.clone();
+    for (by, number) in [(7, 4), (63, 4), (64, 3), (u32::MAX, 3)] {
+        assert_eq!(journal.give(sweep(by)), (number, 0), "by {by}");
+    }
+    assert_eq!((journal.clone(), journal.give(sweep(5))), (before, (0, 1)));
+    assert!(!sweep(0).is_flat());
+}
+
+/// In shift 3 a sweep changes no answer in this shift or a later one: allowances and persons.
+#[test]
+fn sweep_changes_no_answer() {
+    let mut random = Random::new(5);
+    let (mut swept, mut later) = (0, 0);
+    for _ in 0..300 {
+        let before = small(&mut random, 8);
+        let mut after = before.clone();
+        let (number, count) = after.give(sweep(0));
+        assert_eq!((number, before.loans.len()), (0, after.loans.len() + count as usize));
+        let best = |journal: &Journal, shift| journal.best_chains_in(shift, ON, RIGHT);
+        for shift in 3..7 {
+            assert_eq!(best(&after, shift), best(&before, shift), "shift {shift}");
+        }
+        swept += u32::from(best(&after, 0) != best(&before, 0));
+        later += u32::from(best(&after, 3) != best(&after, 4));
+    }
+    assert!(swept > 0 && later > 0, "{swept}, {later}");
 }
 
 /// The items of a set: "bit i for item i".
@@ -239,16 +295,16 @@ fn allowset_in_every_order() {
     for right in [0, RIGHT] {
         let mut before = base();
         for command in [allow(0, 4, ON, right, 2), allow(0, 5, ON, right, 3)] {
-            assert_eq!(before.give(command), 0);
+            assert_eq!(before.give(command), (0, 0));
         }
         let mut at_once = before.clone();
-        assert_eq!(at_once.give(allow_set(0, set_of(&[0, 3, 4, 5, 9]), ON, right, 2)), 0);
+        assert_eq!(at_once.give(allow_set(0, set_of(&[0, 3, 4, 5, 9]), ON, right, 2)), (0, 0));
         let allows = [9, 5, 4, 3, 0].map(|to| allow(0, to, ON, right, 2));
         let every = orders(&allows);
         assert_eq!(every.len(), 120);
         for order in every {
             let mut one_by_one = before.clone();
-            assert!(order.iter().all(|&allow| one_by_one.give(allow) == 0));
+            assert!(order.iter().all(|&allow| one_by_one.give(allow) == (0, 0)));
             assert_eq!(one_by_one, at_once);
         }
     }
@@ -281,9 +337,9 @@ fn numbers_of_drop() {
     assert_eq!((answer(0, 64, ON, 7), answer(0, 3, 64, 7)), (3, 3));
     assert_eq!(journal.answer(drop(0, 3, ON, 8, 7)), 3);
     let before = journal.clone();
-    assert_eq!(journal.give(drop(0, 3, ON, RIGHT, 1)), 0);
+    assert_eq!(journal.give(drop(0, 3, ON, RIGHT, 1)), (0, 0));
     assert_eq!(journal, before);
-    assert_eq!(journal.give(drop(0, 3, ON, RIGHT, 2)), 0);
+    assert_eq!(journal.give(drop(0, 3, ON, RIGHT, 2)), (0, 0));
     assert_eq!(before.grants.len(), journal.grants.len() + 1);
     assert_eq!((best(&journal, 3), best(&journal, 5)), (None, None));
     assert!(journal.loans.iter().map(|l| (l.lender, l.borrower)).eq([(4, 5)]));
@@ -297,18 +353,18 @@ fn withdraw_in_every_order() {
     let mut before = base();
     for command in [allow(0, 3, ON, RIGHT, 0), allow(0, 3, ON, RIGHT, 7), allow(0, 4, ON, RIGHT, 7)]
     {
-        assert_eq!(before.give(command), 0);
+        assert_eq!(before.give(command), (0, 0));
     }
     let mut left = before.clone();
     left.grants.retain(|g| (g.person, g.item, g.right) != (3, ON, RIGHT));
     left.loans = BTreeSet::from([loan_of(1_085_992)]);
     let mut at_once = before.clone();
-    assert_eq!((at_once.give(withdraw(0, 3, ON, RIGHT)), &at_once), (0, &left));
+    assert_eq!((at_once.give(withdraw(0, 3, ON, RIGHT)), &at_once), ((0, 0), &left));
     let every = orders(&withdraw(0, 3, ON, RIGHT).single_drops());
     assert_eq!(every.len(), 40_320);
     for order in every {
         let mut one_by_one = before.clone();
-        assert!(order.iter().all(|&drop| one_by_one.give(drop) == 0));
+        assert!(order.iter().all(|&drop| one_by_one.give(drop) == (0, 0)));
         assert_eq!(one_by_one, left);
     }
 }
@@ -327,7 +383,7 @@ fn loans_after(commands: &[Command], count: usize) {
         lend(4, 3, ON, RIGHT, 1, 5),
     ];
     for &command in loans.iter().chain(&[shift(0, 6)]).chain(commands) {
-        assert_eq!(journal.give(command), 0, "{command:?}");
+        assert_eq!(journal.give(command), (0, 0), "{command:?}");
     }
     assert_eq!((journal.loans.len(), journal.shift), (count, 6), "{commands:?}");
 }
@@ -355,8 +411,9 @@ fn withdrawn_lender() {
 #[test]
 fn withdraw_checked_once() {
     let (mut at_once, mut one_by_one) = (base(), base());
-    assert_eq!(at_once.give(withdraw(0, 0, ON, 0)), 0);
-    let numbers: Vec<u32> = (0..8).map(|depth| one_by_one.give(drop(0, 0, ON, 0, depth))).collect();
+    assert_eq!(at_once.give(withdraw(0, 0, ON, 0)), (0, 0));
+    let numbers: Vec<u32> =
+        (0..8).map(|depth| one_by_one.give(drop(0, 0, ON, 0, depth)).0).collect();
     assert_eq!(numbers, [0, 8, 8, 8, 8, 8, 8, 8]);
     assert_eq!(at_once, one_by_one);
 }
@@ -379,8 +436,8 @@ fn single_drops() {
 #[test]
 fn two_journals() {
     let mut journals = Journals::fresh();
-    let both = |number| Numbers { chains: number, flat: Some(number) };
-    let chains_alone = |number| Numbers { chains: number, flat: None };
+    let both = |number| Numbers::counting_nothing(number, Some(number));
+    let chains_alone = |number| Numbers::counting_nothing(number, None);
     for command in BASE {
         let number = if command.is_flat() { both(0) } else { chains_alone(0) };
         assert_eq!((journals.answer(command), journals.give(command)), (number, number));
@@ -392,7 +449,7 @@ fn two_journals() {
     assert_eq!(journals.give(drop(0, 0, ON, 0, 0)), chains_alone(0));
     assert!(!journals.agree());
     assert_eq!(journals.give(allow(0, 3, ON, RIGHT, 8)), both(3));
-    let parted = Numbers { chains: 8, flat: Some(0) };
+    let parted = Numbers::counting_nothing(8, Some(0));
     assert_eq!(journals.answer(delete(0, ON)), parted);
     assert_eq!(journals.give(allow(0, 4, ON, RIGHT, 2)), parted);
     assert!(journals.flat.granted(4, ON, RIGHT) && !journals.chains.granted(4, ON, RIGHT));
@@ -499,9 +556,9 @@ fn fewest_persons_of_the_base() {
     let best = journal.best_chains(ON, RIGHT);
     assert_eq!((best[3], best[4], best[5]), (chain(2, 1), chain(1, 2), chain(0, 3)));
     assert_eq!((best[0], best[9]), (None, None));
-    assert_eq!(journal.give(lend(3, 5, ON, RIGHT, 0, 0)), 0);
+    assert_eq!(journal.give(lend(3, 5, ON, RIGHT, 0, 0)), (0, 0));
     assert_eq!(journal.best_chains(ON, RIGHT)[5], chain(0, 2));
-    assert_eq!(journal.give(lend(3, 5, ON, RIGHT, 5, 0)), 0);
+    assert_eq!(journal.give(lend(3, 5, ON, RIGHT, 5, 0)), (0, 0));
     assert_eq!(journal.best_chains(ON, RIGHT)[5], chain(1, 2));
 }
 

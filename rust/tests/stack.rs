@@ -35,14 +35,16 @@ fn stored() -> (Images, Images) {
     (fresh, images(&unit))
 }
 
-/// A command of each kind that makes something, and a check.
+/// A command of each kind that makes something, a sweep and a check.
 fn use_it(unit: &mut Chains) {
     assert_eq!(unit.create(Item(0), Item(3)), Ok(()));
     assert_eq!(unit.allow(Item(0), Item(0), Item(3), Right(1), Depth(2)), Ok(()));
     let set = ItemSet(1 << 0 | 1 << 3);
     assert_eq!(unit.allow_set(Item(0), set, Item(0), Right(1), Depth(2)), Ok(()));
     assert_eq!(unit.lend(Item(0), Item(3), Item(3), Right(1), Depth(1), Shift(7)), Ok(()));
+    assert_eq!(unit.lend(Item(0), Item(3), Item(3), Right(1), Depth(1), Shift(6)), Ok(()));
     assert_eq!(unit.shift(Item(0), Shift(7)), Ok(()));
+    assert_eq!(unit.sweep(Item(3)), Ok(1));
     let answer = unit.check(Item(3), Item(3), Right(1)).expect("an answer");
     assert_eq!(answer.persons(), [Item(0), Item(3)]);
 }

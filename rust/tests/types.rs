@@ -3,7 +3,9 @@
 
 mod model;
 
-use model::commands::{allow, allow_set, create, delete, drop, lend, recall, shift, withdraw};
+use model::commands::{
+    allow, allow_set, create, delete, drop, lend, recall, shift, sweep, withdraw,
+};
 use model::{
     image_of, loans_image, ticket_image, Command, GrantLayout, Journal, ListLayout, RowLayout,
     TicketCommand, TicketState,
@@ -15,7 +17,8 @@ use rights::{
 
 /// A type that owns its images.
 trait Owned {
-    fn give(&mut self, command: Command) -> Result<(), Refusal>;
+    /// What the command counts, 0 of one that counts nothing, or its refusal.
+    fn give(&mut self, command: Command) -> Result<u32, Refusal>;
 
     /// The images are those of the journal.
     #[track_caller]
@@ -24,8 +27,8 @@ trait Owned {
 
 /// The method of each command that every unit has, and beside it the arms given.
 macro_rules! by_method {
-    ($unit:ident, $command:ident, $($others:tt)*) => {
-        match $command {
+    ($unit:ident, $command:ident, $($others:tt)*) => {{
+        let done = match $command {
             Command::Create { by, on } => $unit.create(Item(by), Item(on)),
             Command::Delete { by, on } => $unit.delete(Item(by), Item(on)),
             Command::Allow { by, to, on, right, depth } => {
@@ -38,15 +41,16 @@ macro_rules! by_method {
                 $unit.withdraw(Item(by), Item(to), Item(on), Right(right))
             }
             $($others)*
-        }
-    };
+        };
+        done.map(|()| 0)
+    }};
 }
 
 macro_rules! own_flat {
     ($unit:ident, $layout:ident) => {
         impl Owned for $unit {
-            fn give(&mut self, command: Command) -> Result<(), Refusal> {
-                by_method!(self, command, _ => unreachable!("neither drops nor loans nor shifts"))
+            fn give(&mut self, command: Command) -> Result<u32, Refusal> {
+                by_method!(self, command, _ => unreachable!("neither drops nor loans nor shifts nor sweeps"))
             }
 
             fn assert_says(&self, journal: &Journal) {
@@ -60,7 +64,7 @@ own_flat!(Lists, ListLayout);
 own_flat!(Rows, RowLayout);
 
 impl Owned for Chains {
-    fn give(&mut self, command: Command) -> Result<(), Refusal> {
+    fn give(&mut self, command: Command) -> Result<u32, Refusal> {
         by_method!(self, command,
             Command::Drop { by, to, on, right, depth } => {
                 self.drop_grant(Item(by), Item(to), Item(on), Right(right), Depth(depth))
@@ -72,6 +76,7 @@ impl Owned for Chains {
                 self.recall(Item(by), Item(to), Item(on), Right(right), Depth(depth), Shift(last))
             }
             Command::Shift { by, now } => self.shift(Item(by), Shift(now)),
+            Command::Sweep { by } => return self.sweep(Item(by)),
         )
     }
 
@@ -86,8 +91,8 @@ impl Owned for Chains {
 #[track_caller]
 fn give(unit: &mut impl Owned, journal: &mut Journal, commands: &[Command]) {
     for &command in commands {
-        let number = journal.give(command);
-        assert_eq!(unit.give(command), answer(number), "{command:?}");
+        let (number, count) = journal.give(command);
+        assert_eq!(unit.give(command), answer(number).map(|()| count), "{command:?}");
         unit.assert_says(journal);
     }
 }
@@ -324,6 +329,26 @@ mod chains {
             give(&mut unit, &mut journal, &[command]);
         }
         give(&mut unit, &mut journal, &[END_OF_LOAN, shift(3, 7), LOAN]);
+    }
+
+    /// The loan ends with a sweep in shift 8, and not in 7, its last; the one that is open-ended stays. By
+    /// 5, who may edit nothing; each refusal by its name.
+    #[test]
+    fn sweeps() {
+        let loans = [LOAN, lend(3, 12, 9, 5, 1, 6), lend(3, 12, 9, 5, 2, 0), shift(0, 7)];
+        let (mut unit, mut journal) = created_and(&loans);
+        assert_eq!(unit.give(sweep(5)), Ok(1));
+        assert_eq!(journal.give(sweep(5)), (0, 1));
+        unit.assert_says(&journal);
+        give(&mut unit, &mut journal, &[sweep(5), shift(0, 8)]);
+        for (by, refusal) in [(64, Refusal::OutOfRange), (4, Refusal::ByDead)] {
+            assert_eq!(unit.give(sweep(by)), Err(refusal), "by {by}");
+            give(&mut unit, &mut journal, &[sweep(by)]);
+        }
+        assert_eq!(unit.clone().give(sweep(5)), Ok(1));
+        give(&mut unit, &mut journal, &[sweep(5), sweep(5)]);
+        let word = (3 << 18) + (9 << 12) + (5 << 9) + (12 << 3) + 2;
+        assert_eq!(unit.loans()[..3], [(8 << 16) + 1, word, 0]);
     }
 
     /// The loan gives 12 the right in shift 7, its last, and no longer in shift 8.

@@ -64,7 +64,7 @@ fn clean(unit: &Unit, at: Place) -> Unit {
 #[track_caller]
 fn leaves(unit: &Unit, command: Command, due: &Unit) {
     let Unit { mut grants, mut loans } = unit.clone();
-    assert_eq!(give_chains(&mut grants, &mut loans, command), 0, "{command:?}");
+    assert_eq!(give_chains(&mut grants, &mut loans, command), (0, 0), "{command:?}");
     assert!(grants == due.grants, "grants after {command:?}");
     assert!(loans == due.loans, "loans after {command:?}");
     assert_eq!(lent::chains::inspect(&grants, &loans), 0, "{command:?}");

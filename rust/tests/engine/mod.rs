@@ -45,7 +45,8 @@ macro_rules! flat {
                     Command::Drop { .. }
                     | Command::Lend { .. }
                     | Command::Recall { .. }
-                    | Command::Shift { .. } => None,
+                    | Command::Shift { .. }
+                    | Command::Sweep { .. } => None,
                 }
             }
 
@@ -71,8 +72,10 @@ macro_rules! flat {
 flat!(ListLayout, RowLayout, lists, "lists", lists_to_rows);
 flat!(RowLayout, ListLayout, rows, "rows", rows_to_lists);
 
-pub fn give_chains(grants: &mut [u8], loans: &mut [u32], command: Command) -> u32 {
-    match command {
+/// The number of a command to the chain unit, and the count that sweep gave beside it; 0 of a command
+/// that gives none.
+pub fn give_chains(grants: &mut [u8], loans: &mut [u32], command: Command) -> (u32, u32) {
+    let number = match command {
         Command::Create { by, on } => lent::chains::create(grants, loans, by, on),
         Command::Delete { by, on } => lent::chains::delete(grants, loans, by, on),
         Command::Allow { by, to, on, right, depth } => {
@@ -94,7 +97,9 @@ pub fn give_chains(grants: &mut [u8], loans: &mut [u32], command: Command) -> u3
             lent::chains::recall(grants, loans, by, to, on, right, depth, last)
         }
         Command::Shift { by, now } => lent::chains::shift(grants, loans, by, now),
-    }
+        Command::Sweep { by } => return lent::chains::sweep(grants, loans, by),
+    };
+    (number, 0)
 }
 
 pub fn check_chains(

@@ -22,14 +22,14 @@ fn number_of(state: &State) -> u32 {
     state.as_ref().err().copied().unwrap_or(0)
 }
 
-/// The number of a command and the journal after it, none where nothing may change.
-fn after(state: &State, command: Command) -> (u32, Option<Journal>) {
+/// The number of a command with its count, and the journal after it, none where nothing may change.
+fn after(state: &State, command: Command) -> ((u32, u32), Option<Journal>) {
     match state {
-        Err(number) => (*number, None),
+        Err(number) => ((*number, 0), None),
         Ok(journal) => {
             let mut journal = journal.clone();
-            let number = journal.give(command);
-            (number, Some(journal).filter(|_| number == 0))
+            let (number, count) = journal.give(command);
+            ((number, count), Some(journal).filter(|_| number == 0))
         }
     }
 }
@@ -78,7 +78,7 @@ impl<U: Flat> FlatImage<'_, U> {
     }
 
     fn command(&self, state: &State, command: Command) {
-        let (number, journal) = after(state, command);
+        let ((number, _), journal) = after(state, command);
         let mut lent = self.lend();
         assert_eq!(U::give(lent.slice(), command), Some(number), "{}, {command:?}", U::NAME);
         let changed = journal.map(|journal| image_of::<U>(&journal));
@@ -192,10 +192,10 @@ impl ChainImages<'_> {
     }
 
     fn command(&self, state: &State, command: Command) {
-        let (number, journal) = after(state, command);
+        let (returned, journal) = after(state, command);
         let mut lent = self.lend();
         let given = give_chains(lent.grants.slice(), lent.loans.slice(), command);
-        assert_eq!(given, number, "chains, {command:?}");
+        assert_eq!(given, returned, "chains, {command:?}");
         match journal {
             Some(journal) => lent.assert_say(&journal, "a command"),
             None => lent.assert_holds(self.grants, self.loans, "a refused command"),

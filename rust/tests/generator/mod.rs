@@ -58,8 +58,11 @@ impl Drop for Trace {
 }
 
 /// The kinds of commands; those that lists and rows have come first.
-pub const KINDS: usize = 9;
+pub const KINDS: usize = 10;
 pub const FLAT_KINDS: usize = 5;
+
+/// The last kind.
+const SWEEP: usize = KINDS - 1;
 
 /// What a list of commands favours.
 #[derive(Clone, Copy, Debug)]
@@ -69,7 +72,7 @@ pub struct Bias {
     pub items: u32,
     /// Rights in play, from 0.
     pub rights: u32,
-    /// Shares of the kinds: create, delete, allow, allowset, withdraw, drop, lend, recall, shift.
+    /// Shares of the kinds: create, delete, allow, allowset, withdraw, drop, lend, recall, shift, sweep.
     pub shares: [u32; KINDS],
     /// Percent of loans with a last shift.
     pub dated: u32,
@@ -86,6 +89,12 @@ pub struct Bias {
     /// Percent of withdraws and drops of one who has lent, and of allows that give back what was
     /// withdrawn or dropped last.
     pub lenders: u32,
+    /// Percent of shifts that go on by 1 to 3.
+    pub onward: u32,
+    /// Percent of lends that are the last one again, where its loan does not stand.
+    pub again: u32,
+    /// Percent of commands that are sweeps where the table of loans is full.
+    pub room: u32,
     /// Percent of numbers that are anything.
     pub wild: u32,
     /// Commands before the units start again.
@@ -99,7 +108,7 @@ const EVEN: Bias = Bias {
     name: "few items",
     items: 6,
     rights: 3,
-    shares: [10, 5, 30, 3, 10, 4, 30, 15, 4],
+    shares: [10, 5, 30, 3, 10, 4, 30, 15, 4, 2],
     dated: 30,
     on_key: 0,
     held: 30,
@@ -107,17 +116,26 @@ const EVEN: Bias = Bias {
     layers: 0,
     astray: 0,
     lenders: 0,
+    onward: 0,
+    again: 0,
+    room: 0,
     wild: 1,
     length: 2_000,
 };
 
-pub const BIASES: [Bias; 17] = [
+pub const BIASES: [Bias; 19] = [
     EVEN,
-    Bias { name: "one key", items: 10, shares: [5, 1, 20, 1, 8, 4, 50, 16, 4], on_key: 90, ..EVEN },
+    Bias {
+        name: "one key",
+        items: 10,
+        shares: [5, 1, 20, 1, 8, 4, 50, 16, 4, 1],
+        on_key: 90,
+        ..EVEN
+    },
     Bias {
         name: "long chains",
         items: 16,
-        shares: [12, 0, 2, 0, 4, 1, 72, 7, 2],
+        shares: [12, 0, 2, 0, 4, 1, 72, 7, 2, 0],
         dated: 10,
         on_key: 97,
         held: 0,
@@ -127,7 +145,7 @@ pub const BIASES: [Bias; 17] = [
     Bias {
         name: "delete and create",
         items: 8,
-        shares: [28, 15, 25, 5, 2, 3, 28, 2, 10],
+        shares: [28, 15, 25, 5, 2, 3, 28, 2, 10, 2],
         on_key: 60,
         length: 400,
         ..EVEN
@@ -136,7 +154,7 @@ pub const BIASES: [Bias; 17] = [
         name: "full loans",
         items: 64,
         rights: 8,
-        shares: [2, 0, 6, 4, 1, 0, 88, 3, 2],
+        shares: [2, 0, 6, 4, 1, 0, 88, 3, 2, 0],
         wild: 0,
         length: 3_000,
         ..EVEN
@@ -144,7 +162,7 @@ pub const BIASES: [Bias; 17] = [
     Bias {
         name: "full loans of one key",
         items: 64,
-        shares: [2, 0, 6, 1, 2, 1, 86, 4, 2],
+        shares: [2, 0, 6, 1, 2, 1, 86, 4, 2, 0],
         on_key: 98,
         wild: 0,
         length: 3_000,
@@ -154,7 +172,7 @@ pub const BIASES: [Bias; 17] = [
         name: "beyond the limits",
         items: 64,
         rights: 8,
-        shares: [10, 5, 30, 3, 10, 16, 30, 15, 4],
+        shares: [10, 5, 30, 3, 10, 16, 30, 15, 4, 4],
         wild: 25,
         length: 1_000,
         ..EVEN
@@ -163,13 +181,13 @@ pub const BIASES: [Bias; 17] = [
         name: "many grants",
         items: 64,
         rights: 8,
-        shares: [10, 2, 70, 4, 8, 6, 5, 5, 2],
+        shares: [10, 2, 70, 4, 8, 6, 5, 5, 2, 0],
         ..EVEN
     },
     Bias {
         name: "shift after shift",
         items: 8,
-        shares: [6, 2, 6, 1, 8, 2, 34, 34, 16],
+        shares: [6, 2, 6, 1, 8, 2, 34, 34, 16, 4],
         dated: 70,
         on_key: 80,
         held: 80,
@@ -179,7 +197,7 @@ pub const BIASES: [Bias; 17] = [
         name: "sets of items",
         items: 64,
         rights: 4,
-        shares: [8, 3, 8, 45, 14, 0, 10, 4, 2],
+        shares: [8, 3, 8, 45, 14, 0, 10, 4, 2, 0],
         on_key: 40,
         length: 1_000,
         ..EVEN
@@ -188,7 +206,7 @@ pub const BIASES: [Bias; 17] = [
         name: "depth after depth",
         items: 5,
         rights: 2,
-        shares: [10, 8, 40, 2, 6, 34, 8, 3, 2],
+        shares: [10, 8, 40, 2, 6, 34, 8, 3, 2, 0],
         on_key: 40,
         held: 80,
         length: 300,
@@ -198,14 +216,14 @@ pub const BIASES: [Bias; 17] = [
         name: "edit grants",
         items: 6,
         rights: 1,
-        shares: [12, 14, 40, 2, 4, 26, 1, 1, 2],
+        shares: [12, 14, 40, 2, 4, 26, 1, 1, 2, 0],
         length: 900,
         ..EVEN
     },
     Bias {
         name: "lenders withdrawn",
         items: 4,
-        shares: [3, 1, 22, 1, 12, 20, 30, 10, 16],
+        shares: [3, 1, 22, 1, 12, 20, 30, 10, 16, 0],
         dated: 50,
         on_key: 65,
         held: 95,
@@ -217,7 +235,7 @@ pub const BIASES: [Bias; 17] = [
         name: "a lender's last shifts",
         items: 3,
         rights: 2,
-        shares: [3, 1, 14, 0, 14, 8, 30, 6, 28],
+        shares: [3, 1, 14, 0, 14, 8, 30, 6, 28, 0],
         dated: 85,
         on_key: 85,
         held: 95,
@@ -229,7 +247,7 @@ pub const BIASES: [Bias; 17] = [
         name: "many loans of a lender",
         items: 24,
         rights: 2,
-        shares: [2, 0, 3, 0, 1, 6, 90, 1, 3],
+        shares: [2, 0, 3, 0, 1, 6, 90, 1, 3, 0],
         dated: 50,
         on_key: 95,
         held: 95,
@@ -242,7 +260,7 @@ pub const BIASES: [Bias; 17] = [
         name: "long routes",
         items: 16,
         rights: 2,
-        shares: [0, 0, 9, 0, 1, 1, 80, 7, 2],
+        shares: [0, 0, 9, 0, 1, 1, 80, 7, 2, 0],
         dated: 8,
         on_key: 97,
         layers: 97,
@@ -254,12 +272,38 @@ pub const BIASES: [Bias; 17] = [
         name: "many routes and loops",
         items: 8,
         rights: 2,
-        shares: [0, 0, 7, 0, 3, 3, 62, 20, 5],
+        shares: [0, 0, 7, 0, 3, 3, 62, 20, 5, 0],
         dated: 25,
         on_key: 97,
         layers: 90,
         astray: 55,
         length: 125,
+        ..EVEN
+    },
+    Bias {
+        name: "sweep after sweep",
+        items: 6,
+        shares: [3, 1, 7, 0, 1, 1, 40, 3, 28, 18],
+        dated: 97,
+        on_key: 60,
+        held: 60,
+        onward: 40,
+        again: 40,
+        length: 50,
+        ..EVEN
+    },
+    Bias {
+        name: "full of past shifts",
+        items: 64,
+        rights: 8,
+        shares: [1, 0, 3, 0, 0, 0, 190, 1, 8, 1],
+        dated: 25,
+        on_key: 75,
+        onward: 90,
+        again: 60,
+        room: 20,
+        wild: 0,
+        length: 3_500,
         ..EVEN
     },
 ];
@@ -289,11 +333,14 @@ pub struct Generator {
     dropped: Option<Grant>,
     /// The last grant that a lender was to lose.
     withdrawn: Option<Grant>,
+    /// The last lend.
+    lent: Option<Command>,
 }
 
 impl Generator {
     pub fn new(seed: u64, bias: Bias) -> Self {
-        Self { random: Random::new(seed), bias, allow_set: None, dropped: None, withdrawn: None }
+        let (allow_set, dropped, withdrawn, lent) = (None, None, None, None);
+        Self { random: Random::new(seed), bias, allow_set, dropped, withdrawn, lent }
     }
 
     /// The next command of a list; `step` counts from 0. A list begins with its items. What lists and
@@ -310,7 +357,7 @@ impl Generator {
             at = at.saturating_sub(share);
             here
         });
-        let kind = kind.expect("a share");
+        let kind = if self.makes_room(&journals.chains) { SWEEP } else { kind.expect("a share") };
         let flat = kind < FLAT_KINDS && self.random.percent(30);
         self.of_kind(kind, if flat { &journals.flat } else { &journals.chains })
     }
@@ -332,9 +379,24 @@ impl Generator {
             4 => self.withdraw(journal),
             5 => self.drop(journal),
             6 if in_layers => self.lend_in_layers(journal, on, right),
-            6 => self.lend(journal, on, right),
+            6 => self.lend_or_again(journal, on, right),
             7 => self.recall(journal),
-            _ => Command::Shift { by: self.editor(journal, 0), now: self.now(journal) },
+            8 => Command::Shift { by: self.editor(journal, 0), now: self.now(journal) },
+            _ => Command::Sweep { by: self.sweeper(journal) },
+        }
+    }
+
+    /// Whether the table is full and a sweep is to come, where the bias has such.
+    fn makes_room(&mut self, journal: &Journal) -> bool {
+        self.bias.room > 0 && journal.loans.len() == 1024 && self.random.percent(self.bias.room)
+    }
+
+    /// One that lives, who may edit something or nothing; at times one that is dead, or beyond the limit.
+    fn sweeper(&mut self, journal: &Journal) -> u32 {
+        match self.random.below(100) {
+            0..=11 => self.dead(journal),
+            12..=19 => self.random.pick(&[64, 65, 128, u32::MAX]),
+            _ => self.living(journal),
         }
     }
 
@@ -468,6 +530,16 @@ impl Generator {
         Command::Drop { by, to, on, right, depth }
     }
 
+    /// A lend; where the bias has such, at times the last one again, refused or ended since.
+    fn lend_or_again(&mut self, journal: &Journal, on: u32, right: u32) -> Command {
+        let stands = |lend: &Command| lend.loan().is_some_and(|loan| journal.loans.contains(&loan));
+        let lent = self.lent.filter(|lend| self.bias.again > 0 && !stands(lend));
+        let again = lent.filter(|_| self.random.percent(self.bias.again));
+        let command = again.unwrap_or_else(|| self.lend(journal, on, right));
+        self.lent = Some(command);
+        command
+    }
+
     /// A loan that stands, at times for another last shift, one to the next item, or any.
     fn lend(&mut self, journal: &Journal, on: u32, right: u32) -> Command {
         if self.random.percent(8) {
@@ -518,6 +590,9 @@ impl Generator {
     /// A shift: near the present one, at times anything.
     fn now(&mut self, journal: &Journal) -> u32 {
         let present = journal.shift;
+        if self.bias.onward > 0 && self.random.percent(self.bias.onward) {
+            return present + 1 + self.random.below(3);
+        }
         match self.random.below(100) {
             0..=14 => present,
             15..=49 => present + 1,

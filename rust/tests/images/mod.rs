@@ -61,11 +61,11 @@ impl Images {
         assert!(self.loans == expected.loans, "loans differ");
     }
 
-    /// The same command to each unit that has it; each answers with the number.
+    /// The same command, which counts nothing, to each unit that has it; each answers with the number.
     #[track_caller]
     pub fn give(&mut self, command: Command, number: u32) {
         let flat = Some(number).filter(|_| command.is_flat());
-        self.give_each(command, Numbers { chains: number, flat });
+        self.give_each(command, Numbers::counting_nothing(number, flat));
     }
 
     /// The same command to each unit that has it; each answers with its own number.
@@ -74,6 +74,6 @@ impl Images {
         assert_eq!(ListLayout::give(&mut self.lists, command), numbers.flat, "lists, {command:?}");
         assert_eq!(RowLayout::give(&mut self.rows, command), numbers.flat, "rows, {command:?}");
         let chains = give_chains(&mut self.grants, &mut self.loans, command);
-        assert_eq!(chains, numbers.chains, "chains, {command:?}");
+        assert_eq!(chains, (numbers.chains, numbers.count), "chains, {command:?}");
     }
 }

@@ -38,6 +38,10 @@ pub const fn shift(by: u32, now: u32) -> Command {
     Command::Shift { by, now }
 }
 
+pub const fn sweep(by: u32) -> Command {
+    Command::Sweep { by }
+}
+
 /// What every handover example starts from.
 pub const BASE: [Command; 7] = [
     create(0, 3),

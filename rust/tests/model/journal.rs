@@ -39,6 +39,7 @@ pub enum Command {
     Lend { by: u32, to: u32, on: u32, right: u32, depth: u32, last: u32 },
     Recall { by: u32, to: u32, on: u32, right: u32, depth: u32, last: u32 },
     Shift { by: u32, now: u32 },
+    Sweep { by: u32 },
 }
 
 /// The items, right, depth and shift that a command names; 0 for what it has none of.
@@ -71,6 +72,7 @@ impl Command {
                 Named { items: vec![by, to, on], right, depth, shift: last }
             }
             Command::Shift { by, now } => Named { items: vec![by], right: 0, depth: 0, shift: now },
+            Command::Sweep { by } => Named { items: vec![by], right: 0, depth: 0, shift: 0 },
         }
     }
 
@@ -96,7 +98,8 @@ impl Command {
             Command::Drop { .. }
             | Command::Lend { .. }
             | Command::Recall { .. }
-            | Command::Shift { .. } => false,
+            | Command::Shift { .. }
+            | Command::Sweep { .. } => false,
         }
     }
 
@@ -154,13 +157,21 @@ impl Journal {
         }
     }
 
-    /// Takes a command: its number, and on 0 the change.
-    pub fn give(&mut self, command: Command) -> u32 {
-        let number = self.answer(command);
+    /// Takes a command: its number and its count, and on 0 the change.
+    pub fn give(&mut self, command: Command) -> (u32, u32) {
+        let (number, count) = self.returns(command);
         if number == 0 {
             self.change(command);
         }
-        number
+        (number, count)
+    }
+
+    /// The number of a command and its count: of a sweep how many loans are past their last shift, of
+    /// any other 0. "Where this or any later call is refused, whatever else it returns is 0".
+    pub fn returns(&self, command: Command) -> (u32, u32) {
+        let number = self.answer(command);
+        let counts = number == 0 && matches!(command, Command::Sweep { .. });
+        (number, if counts { self.past().count() as u32 } else { 0 })
     }
 
     /// The table of answers from 3 on: the first number that applies, in each command's order.
@@ -182,6 +193,8 @@ impl Journal {
             }
             Command::Recall { to, on, .. } => self.answer_named(to, on),
             Command::Shift { by, now } => self.answer_shift(by, now),
+            // "numbers 1 to 4".
+            Command::Sweep { .. } => 0,
         }
     }
 
@@ -269,7 +282,7 @@ impl Journal {
             // "It does what the single allows do in any order".
             Command::AllowSet { .. } => {
                 for allow in command.single_allows() {
-                    assert_eq!(self.give(allow), 0, "{allow:?} of {command:?}");
+                    assert_eq!(self.give(allow), (0, 0), "{allow:?} of {command:?}");
                 }
             }
             // "withdraw is eight drops, checked once before the first and done as one".
@@ -286,6 +299,11 @@ impl Journal {
                 self.loans.remove(&Loan { lender: by, item: on, right, borrower: to, depth, last });
             }
             Command::Shift { now, .. } => self.shift = now,
+            // "ends all loans past their last shift".
+            Command::Sweep { .. } => {
+                let shift = self.shift;
+                self.loans.retain(|loan| loan.carries_in(shift));
+            }
         }
     }
 
@@ -312,6 +330,11 @@ impl Journal {
     /// The loans with a last shift, past ones too.
     pub fn dated(&self) -> impl Iterator<Item = &Loan> {
         self.loans.iter().filter(|loan| loan.last != 0)
+    }
+
+    /// The loans past their last shift: it is set, and below the present shift.
+    pub fn past(&self) -> impl Iterator<Item = &Loan> {
+        self.dated().filter(|loan| loan.last < self.shift)
     }
 
     /// An edit grant on an item is one of right 0 there, at any depth.

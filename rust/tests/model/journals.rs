@@ -15,7 +15,16 @@ pub struct Journals {
 #[derive(Clone, Copy, Debug, PartialEq, Eq)]
 pub struct Numbers {
     pub chains: u32,
+    /// The chain unit's count beside its number.
+    pub count: u32,
     pub flat: Option<u32>,
+}
+
+impl Numbers {
+    /// The chain unit's number beside that of lists and rows, of a command that counts nothing.
+    pub fn counting_nothing(chains: u32, flat: Option<u32>) -> Self {
+        Self { chains, count: 0, flat }
+    }
 }
 
 impl Journals {
@@ -25,13 +34,15 @@ impl Journals {
 
     pub fn answer(&self, command: Command) -> Numbers {
         let flat = command.is_flat().then(|| self.flat.answer(command));
-        Numbers { chains: self.chains.answer(command), flat }
+        let (chains, count) = self.chains.returns(command);
+        Numbers { chains, count, flat }
     }
 
     /// Takes a command: its numbers, and on 0 the change.
     pub fn give(&mut self, command: Command) -> Numbers {
-        let flat = command.is_flat().then(|| self.flat.give(command));
-        Numbers { chains: self.chains.give(command), flat }
+        let flat = command.is_flat().then(|| self.flat.give(command).0);
+        let (chains, count) = self.chains.give(command);
+        Numbers { chains, count, flat }
     }
 
     /// The two say the same of items and grants: no drop has parted them.

@@ -1,4 +1,4 @@
-//! Document 01 once more, with requests K1 to K3 and K5 to K7 of document 02, in plain Rust over sets.
+//! Document 01 once more, with requests K1 to K3 and K5 to K8 of document 02, in plain Rust over sets.
 //! It shares no code with the engine; where the papers leave a choice, it follows the readings in
 //! docs/DECISIONS.md.
 #![allow(dead_code, unused_imports)]

@@ -142,7 +142,10 @@ impl Bereft {
             | Command::Withdraw { on, .. }
             | Command::Drop { on, .. } => on,
             Command::Shift { .. } => 0,
-            Command::Create { .. } | Command::Lend { .. } | Command::Recall { .. } => return false,
+            Command::Create { .. }
+            | Command::Lend { .. }
+            | Command::Recall { .. }
+            | Command::Sweep { .. } => return false,
         };
         self.0.contains(&(command.by(), item))
     }

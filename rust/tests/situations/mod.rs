@@ -1,17 +1,19 @@
 //! How often a run came upon what shifts are about, loans for one shift, past loans and a shift that
-//! goes back; and upon what allowsets, drops, withdrawn lenders, the loans of a check and the choice among
-//! its chains are about.
+//! goes back; and upon what allowsets, drops, withdrawn lenders, sweeps, the loans of a check and the
+//! choice among its chains are about.
 
 mod allow_sets;
 mod drops;
 mod picks;
 mod routes;
+mod sweeps;
 mod withdrawals;
 
 use crate::model::{BestChain, Command, Journal, Journals, Loan, Numbers};
 use drops::{Bereft, Dropped};
 use picks::Check;
 use routes::Routes;
+use sweeps::{Sweep, Swept, SweptOwed};
 use withdrawals::{Memory, Owed, Withdrawal};
 
 /// For each person, what the best chain ends with.
@@ -42,6 +44,10 @@ struct Moment<'a> {
     withdrawal: Option<Withdrawal<'a>>,
     /// What it owes to loans that have ended with a grant.
     owed: Owed,
+    /// What there is to say where it is a sweep.
+    sweep: Option<Sweep<'a>>,
+    /// What it owes to sweeps.
+    swept_owed: SweptOwed,
 }
 
 impl Moment<'_> {
@@ -157,11 +163,15 @@ pub struct Situations {
     loans_stay: [u64; withdrawals::OTHERS.len()],
     withdrawn: [u64; withdrawals::WITHDRAWS.len()],
     routes: [u64; routes::SITUATIONS.len()],
+    sweeps: [u64; sweeps::SITUATIONS.len()],
+    sweep_others: [u64; sweeps::OTHERS.len()],
+    sweep_checks: [u64; sweeps::CHECKS.len()],
     freed: bool,
     /// The last accepted allowset.
     allow_set: Option<Command>,
     bereft: Bereft,
     memory: Memory,
+    swept: Swept,
 }
 
 fn of_key(loan: &Loan, item: u32, right: u32) -> bool {
@@ -196,6 +206,8 @@ impl Situations {
             bereft: self.bereft.names(command),
             withdrawal: Withdrawal::of(journal, command),
             owed: self.owed(journal, command, number),
+            sweep: Sweep::of(journal, command),
+            swept_owed: self.swept.owed(journal, command, number),
         };
         count(&mut self.commands, SITUATIONS.iter().map(|(_, is_one)| is_one(&moment)));
         let allow_sets = allow_sets::SITUATIONS.iter();
@@ -203,6 +215,8 @@ impl Situations {
         count(&mut self.drops, drops::SITUATIONS.iter().map(|(_, is_one)| is_one(&moment)));
         count(&mut self.loans_end, withdrawals::ENDS.iter().map(|(_, is_one)| is_one(&moment)));
         count(&mut self.loans_stay, withdrawals::OTHERS.iter().map(|(_, is_one)| is_one(&moment)));
+        count(&mut self.sweeps, sweeps::SITUATIONS.iter().map(|(_, is_one)| is_one(&moment)));
+        count(&mut self.sweep_others, sweeps::OTHERS.iter().map(|(_, is_one)| is_one(&moment)));
         self.keep(&moment);
     }
 
@@ -224,6 +238,7 @@ impl Situations {
         self.freed = recalled || self.freed && !lent && !moment.back(0);
         self.bereft.take(moment.dropped.as_ref(), moment.number, moment.journal);
         self.memory.take(moment);
+        self.swept.take(moment);
     }
 
     /// Counts a withdraw of so many depths and loans by the numbers of its eight drops.
@@ -231,6 +246,12 @@ impl Situations {
         let equal = depths > 1 && numbers.iter().all(|&number| number == 0);
         count(&mut self.withdraws, [equal, numbers.contains(&8)]);
         count(&mut self.withdrawn, [equal && loans > 0]);
+    }
+
+    /// Counts a check that a sweep left as it was, by the best chains to the person now, were no loan
+    /// past, and in a later shift.
+    pub fn stays(&mut self, best: [Option<BestChain>; 3]) {
+        count(&mut self.sweep_checks, sweeps::stays(best));
     }
 
     /// Counts the answer to a question within the limits; `best` is what the model has there.
@@ -261,6 +282,8 @@ impl Situations {
         let into = commands.chain(&mut self.allow_sets).chain(drops).chain(&mut self.picks);
         let loans = self.loans_end.iter_mut().chain(&mut self.loans_stay);
         let into = into.chain(loans).chain(&mut self.withdrawn).chain(&mut self.routes);
+        let sweeps = self.sweeps.iter_mut().chain(&mut self.sweep_others);
+        let into = into.chain(sweeps).chain(&mut self.sweep_checks);
         into.zip(other.counts()).for_each(|(count, more)| *count += more);
     }
 
@@ -276,6 +299,9 @@ impl Situations {
             .chain(&self.loans_stay)
             .chain(&self.withdrawn)
             .chain(&self.routes)
+            .chain(&self.sweeps)
+            .chain(&self.sweep_others)
+            .chain(&self.sweep_checks)
     }
 
     /// Each situation by its name, and how often it came up.
@@ -289,6 +315,8 @@ impl Situations {
         let named = commands.chain(allow_sets).chain(drops).chain(picks);
         let named = named.chain(loans).chain(withdrawals::WITHDRAWS);
         let named = named.chain(routes::SITUATIONS.iter().map(name));
+        let sweeps = sweeps::SITUATIONS.iter().chain(&sweeps::OTHERS).map(name);
+        let named = named.chain(sweeps).chain(sweeps::CHECKS);
         named.zip(self.counts().copied())
     }
 

@@ -7,7 +7,7 @@ use rights::lent::chains::Checked;
 
 use crate::engine::{check_chains, give_chains};
 use crate::model::commands::{
-    allow, allow_set, create, delete, drop, lend, recall, shift, withdraw, BASE,
+    allow, allow_set, create, delete, drop, lend, recall, shift, sweep, withdraw, BASE,
 };
 use crate::model::{Command, GrantLayout, Layout};
 
@@ -51,15 +51,23 @@ impl Unit {
         self
     }
 
-    /// Each command is answered with the number; a refused one leaves "all unchanged".
+    /// Each command is answered with the number and counts nothing; a refused one leaves "all
+    /// unchanged".
     #[track_caller]
     pub fn give(&mut self, number: u32, commands: &[Command]) {
         for &command in commands {
             let before = self.clone();
             let given = give_chains(&mut self.grants, &mut self.loans, command);
-            assert_eq!(given, number, "{command:?}");
+            assert_eq!(given, (number, 0), "{command:?}");
             assert!(number == 0 || *self == before, "changed by {command:?}");
         }
+    }
+
+    /// A sweep by 0 is accepted and ends so many loans.
+    #[track_caller]
+    pub fn swept(&mut self, count: u32) {
+        let given = give_chains(&mut self.grants, &mut self.loans, sweep(0));
+        assert_eq!(given, (0, count), "sweep");
     }
 
     /// A check with a buffer of sevens, and the buffer after it.
@@ -112,7 +120,7 @@ impl Unit {
         left.give(number, &[withdraw(0, 0, 0, 1), lend(0, 0, 0, 1, 0, 0), shift(0, 0)]);
         left.give(number, &[recall(0, 0, 0, 1, 0, 0), shift(64, 0)]);
         left.give(number, &[allow_set(0, 1, 0, 1, 0), allow_set(64, 0, 0, 1, 0)]);
-        left.give(number, &[drop(0, 0, 0, 0, 0), drop(64, 0, 0, 1, 8)]);
+        left.give(number, &[drop(0, 0, 0, 0, 0), drop(64, 0, 0, 1, 8), sweep(0), sweep(64)]);
         left.refuse_check((64, 0, 0), 8, number);
         assert_eq!(lent::chains::inspect(&left.grants, &left.loans), number, "inspect");
         assert!(left == *self, "an image changed");
