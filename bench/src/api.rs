@@ -27,7 +27,8 @@ pub struct Question {
     pub right: u32,
 }
 
-/// A number and a value: yes or no of a check, the persons of a subject set, the number of a new ticket.
+/// A number and a value: yes or no of a check, the persons of a subject set, the loans that a sweep ended, the number of
+/// a new ticket.
 #[derive(Clone, Copy, Debug, PartialEq)]
 pub struct Said {
     pub number: u32,
@@ -65,6 +66,7 @@ pub struct Chains {
     pub drop: fn(&mut [u8], &mut [u32], Grant) -> u32,
     pub lend: fn(&mut [u8], &mut [u32], Grant) -> u32,
     pub recall: fn(&mut [u8], &mut [u32], Grant) -> u32,
+    pub sweep: fn(&mut [u8], &mut [u32], u32) -> Said,
     pub check: fn(&[u8], &[u32], Question, &mut [u8]) -> Found,
     pub inspect: fn(&[u8], &[u32]) -> u32,
 }

@@ -205,6 +205,27 @@ fn ending_cases() -> Vec<Case<Chains, Lending>> {
     ]
 }
 
+/// Sweeps by item 6 of a full table, of whose loans some are past.
+fn sweep_cases() -> Vec<Case<Chains, Lending>> {
+    let case = |name: String, past, step: LendingStep| Case {
+        name,
+        calls: 1,
+        state: Lending::new(ChainState::past(past), 0),
+        step,
+    };
+    let put_back = case("no call: loans put back".to_string(), 512, |_, s| {
+        s.put_back();
+        0
+    });
+    let sweeps = [0, 512, 1024].map(|past| {
+        case(format!("sweep, {} past of 1,024 loans", written(past)), past, |u, s| {
+            s.put_back();
+            digest((u.sweep)(&mut s.unit.grants, &mut s.unit.loans, 6))
+        })
+    });
+    [put_back].into_iter().chain(sweeps).collect()
+}
+
 /// A check of the key for the next of the 64 persons.
 fn check_next(u: &Chains, s: &mut ChainState) -> Found {
     let q = Question { who: s.who, on: KEY.0, right: KEY.1 };
@@ -252,6 +273,10 @@ pub fn chains() -> Vec<Line> {
 
 pub fn endings() -> Vec<Line> {
     ending_cases().into_iter().map(|case| run(case, &ENGINE.chains, &PLAIN.chains)).collect()
+}
+
+pub fn sweeps() -> Vec<Line> {
+    sweep_cases().into_iter().map(|case| run(case, &ENGINE.chains, &PLAIN.chains)).collect()
 }
 
 pub fn checks() -> Vec<Line> {

@@ -35,6 +35,7 @@ const CHAINS: Chains = Chains {
     drop: |grants, loans, g| chains::drop(grants, loans, g.by, g.to, g.on, g.right, g.depth),
     lend: |grants, loans, g| chains::lend(grants, loans, g.by, g.to, g.on, g.right, g.depth, 0),
     recall: |grants, loans, g| chains::recall(grants, loans, g.by, g.to, g.on, g.right, g.depth, 0),
+    sweep: |grants, loans, by| said(chains::sweep(grants, loans, by)),
     check: |grants, loans, q, chain| {
         let checked = chains::check(grants, loans, q.who, q.on, q.right, chain);
         Found { number: checked.number, depth: checked.depth, persons: checked.persons }

@@ -140,11 +140,25 @@ fn ended_alike(state: &ChainState, seeded: &mut Seeded) -> usize {
     loans::count(&state.loans) - loans::count(&one.loans)
 }
 
+/// A sweep, mostly by an item that lives: engine and plain Rust must answer and leave the same, and a check of the key
+/// must stay as it was. What it said.
+fn swept_alike(state: &ChainState, seeded: &mut Seeded) -> Said {
+    let by = [0, number(seeded, 64), seeded.below(KEY.0)][seeded.below(3) as usize];
+    let (mut one, mut other) = (state.clone(), state.clone());
+    let said = (ENGINE.chains.sweep)(&mut one.grants, &mut one.loans, by);
+    assert_eq!(said, (PLAIN.chains.sweep)(&mut other.grants, &mut other.loans, by), "sweep by {by}");
+    assert!(one == other, "the images differ after a sweep by {by}");
+    assert_eq!(loans::count(&state.loans), loans::count(&one.loans) + said.value as usize, "sweep by {by}");
+    assert_eq!(chains_hold(&one), chains_hold(state), "checks after a sweep by {by}");
+    said
+}
+
 /// Loans among few persons, so that chains of equal depth and of every length meet.
 fn crowded() {
     let mut seeded = Seeded::new(33);
     let (mut longer, mut lengths) = (0, [0; CHAIN_PERSONS + 1]);
     let mut ended = [0; 4];
+    let (mut swept, mut refused) = ([0; 4], [0; 5]);
     for _ in 0..CROWDS {
         let state = ChainState::crowd(&mut seeded);
         chains_hold(&state);
@@ -152,7 +166,12 @@ fn crowded() {
         let dated = state.dated(seeded.below(8));
         chains_hold(&dated).iter().for_each(|&persons| lengths[persons as usize] += 1);
         ended[ended_alike(&dated, &mut seeded).min(3)] += 1;
+        let said = swept_alike(&dated, &mut seeded);
+        swept[said.value.min(3) as usize] += 1;
+        refused[said.number as usize] += 1;
     }
+    assert!(swept.iter().all(|&count| count > 0), "sweeps by loans ended: {swept:?}");
+    assert!([DONE, OUT_OF_RANGE, BY_DEAD].iter().all(|&n| refused[n as usize] > 0), "sweeps by number: {refused:?}");
     assert!(ended.iter().all(|&count| count > 0), "withdraws and drops by loans ended: {ended:?}");
     assert!(longer > 0, "settling always had the fewest persons");
     assert!(lengths.iter().all(|&count| count > 0), "chains by persons: {lengths:?}");

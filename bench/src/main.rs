@@ -44,6 +44,7 @@ fn main() {
     print_calls("Conversions", "plain Rust", &calls::conversions());
     print_calls("Chain unit: commands", "plain Rust", &calls::chains());
     print_calls("Chain unit: ends of a lender's grants", "plain Rust", &calls::endings());
+    print_calls("Chain unit: sweeps", "plain Rust", &calls::sweeps());
     print_calls("Chain unit: checks", "plain Rust", &calls::checks());
     print_calls("Checks beside plain Rust that settles each person once", "settling", &calls::settling_checks());
     print_times("Sets of 40 members", ["Unit", "40 allows", "one allow_set"], &calls::sets());

@@ -146,6 +146,21 @@ impl ChainState {
         state
     }
 
+    /// A full table over all items and rights but 0, in shift 9: that many of the loans are past, with last shifts 1 to 8;
+    /// of the others every other one is open-ended, and the rest have last shifts 9 to 16.
+    pub fn past(count: u32) -> ChainState {
+        let mut state = ChainState::spread(LOANS_MAX);
+        for (at, word) in (0..).zip(&mut state.loans[1..]) {
+            // The past ones lie evenly among the rest of the word.
+            let is_past = (at + 1) * count / LOANS_MAX > at * count / LOANS_MAX;
+            let last = if is_past { 1 + at % 8 } else { at / 2 % 2 * (9 + at % 8) };
+            *word |= last << 24;
+        }
+        state.loans[1..].sort_unstable();
+        state.loans[0] |= 9 << 16;
+        state
+    }
+
     /// Up to 40 loans among nine persons, of the key and some of another right. In one state of two most go from a
     /// person to the next, so that chains grow long.
     pub fn crowd(seeded: &mut Seeded) -> ChainState {

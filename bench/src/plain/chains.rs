@@ -107,6 +107,21 @@ fn try_recall(unit: &mut Chains, g: Grant) -> Answer {
     Ok(())
 }
 
+/// How many loans were past and have ended.
+fn try_sweep(unit: &mut Chains, by: u32) -> Result<usize, u32> {
+    unit.order()?;
+    in_range(&[by], 0, 0)?;
+    require(unit.lives(by), BY_DEAD)?;
+    Ok(loans::remove_past(unit.loans))
+}
+
+fn sweep(grants: &mut [u8], loans: &mut [u32], by: u32) -> Said {
+    match try_sweep(&mut Chains { grants, loans }, by) {
+        Ok(swept) => Said { number: DONE, value: swept as u64 },
+        Err(refusal) => Said { number: refusal, value: 0 },
+    }
+}
+
 fn judge_check(grants: &[u8], table: &[u32], q: Question, room: usize) -> Answer {
     require(room == CHAIN_PERSONS, WRONG_LENGTH)?;
     order(grants, table)?;
@@ -159,6 +174,7 @@ pub const UNIT: api::Chains = api::Chains {
     drop: |grants, loans, g| number(try_drop(&mut Chains { grants, loans }, g)),
     lend: |grants, loans, g| number(try_lend(&mut Chains { grants, loans }, g)),
     recall: |grants, loans, g| number(try_recall(&mut Chains { grants, loans }, g)),
+    sweep,
     check,
     inspect: |grants, loans| number(order(grants, loans)),
 };

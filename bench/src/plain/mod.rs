@@ -1,6 +1,6 @@
 //! The engine once more, in plain safe Rust: the same images, the same checks in the same order, the same answers. It
-//! has no command of shifts and makes loans open-ended; its check takes any, and withdraw and drop end any. It is what
-//! the proved engine is measured against.
+//! has no command of shifts and makes loans open-ended; its check takes any, withdraw and drop end any, and so does
+//! sweep. It is what the proved engine is measured against.
 
 pub mod chains;
 pub mod convert;
