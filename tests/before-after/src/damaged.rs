@@ -56,10 +56,13 @@ fn chains(recorder: &mut Recorder, what: &str, images: (&[u8], &[u32]), journal:
     recorder.totals.damaged += 1;
     for kind in 0..KINDS {
         let command = recorder.generator.of_kind(kind, journal);
+        if recorder.passes_over(command) {
+            continue;
+        }
         let (mut grants, mut loans) = (images.0.to_vec(), images.1.to_vec());
-        let number = give_chains(&mut grants, &mut loans, command);
+        let returned = give_chains(&mut grants, &mut loans, command);
         let (grants, loans) = (Hash::of(&grants), Hash::of(&loans));
-        recorder.record(format_args!("{what}, {command:?}: {number} {grants} {loans}"));
+        recorder.record(format_args!("{what}, {command:?}: {returned:?} {grants} {loans}"));
     }
     checks(recorder, what, images, journal);
     let inspected = lent::chains::inspect(images.0, images.1);

@@ -11,7 +11,7 @@ use crate::model::{Command, Loan};
 pub const BIAS: Bias = Bias {
     name: "many loans of one key",
     items: 64,
-    shares: [0, 0, 2, 0, 2, 2, 46, 40, 4],
+    shares: [0, 0, 2, 0, 2, 2, 46, 40, 4, 2],
     dated: 50,
     on_key: 95,
     wild: 0,

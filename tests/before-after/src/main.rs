@@ -2,7 +2,8 @@
 //! line, so that the records of two archives can be compared. The model, never the archive, decides
 //! what is asked: the same seed asks the same of every archive. Of each check it also says the depth
 //! and the number of persons, and the program fails where the archive says another; which of the
-//! shortest best chains is written is open, and the records alone have it.
+//! shortest best chains is written is open, and the records alone have it. With RIGHTS_WITHOUT_SWEEP
+//! sweeps are passed over, for an archive that lacks them.
 
 mod damaged;
 mod dense;
@@ -78,6 +79,7 @@ fn dense_list(recorder: &mut Recorder, seed: u64, loans: u32) {
 
 fn every_list(file: &Path) -> Totals {
     let mut totals = Totals::default();
+    totals.sweeps = std::env::var_os("RIGHTS_WITHOUT_SWEEP").is_none().then_some(0);
     let mut transcript = Transcript::create(file);
     for round in 0..LISTS {
         for (number, bias) in (0..).zip(BIASES) {

@@ -54,20 +54,29 @@ impl<'a> Recorder<'a> {
         self.give(command);
     }
 
-    /// A command to the three units: their numbers, and their images after it.
+    /// Whether neither unit nor model gets the command: a sweep, where an archive lacks it.
+    pub fn passes_over(&self, command: Command) -> bool {
+        self.totals.sweeps.is_none() && matches!(command, Command::Sweep { .. })
+    }
+
+    /// A command to the three units: their numbers, the count of a sweep, and their images after it.
     pub fn give(&mut self, command: Command) {
+        if self.passes_over(command) {
+            return;
+        }
         self.command += 1;
         self.totals.commands += 1;
         let Images { lists, rows, grants, loans } = &mut self.images;
         let flat = (ListLayout::give(lists, command), RowLayout::give(rows, command));
-        let number = give_chains(grants, loans, command);
+        let (number, count) = give_chains(grants, loans, command);
         let flat_images = (Hash::of(lists), Hash::of(rows));
         let chain_images = (Hash::of(grants), Hash::of(loans));
         self.record(format_args!(
-            "{command:?}: lists {:?} {}, rows {:?} {}, chains {number} {} {}",
+            "{command:?}: lists {:?} {}, rows {:?} {}, chains {number} {count} {} {}",
             flat.0, flat_images.0, flat.1, flat_images.1, chain_images.0, chain_images.1
         ));
-        self.journals.give(command);
+        let swept = self.journals.give(command).count > 0;
+        self.totals.sweeps = self.totals.sweeps.map(|sweeps| sweeps + u64::from(swept));
     }
 
     /// Every person on the item and right of a question; where that is beyond the limits, the

@@ -24,6 +24,8 @@ pub struct Totals {
     pub buffers: u64,
     pub damaged: u64,
     pub records: u64,
+    /// Sweeps that end loans; none where an archive lacks the command.
+    pub sweeps: Option<u64>,
     /// Checks with another depth than the model's best chains, or more persons than the shortest.
     apart: u64,
     /// Checks by persons of the chain, from 1 on.
@@ -83,7 +85,8 @@ impl Totals {
 
     fn named(&self) -> impl Iterator<Item = (String, u64)> + '_ {
         let lengths = (1..).zip(self.lengths).map(|(n, count)| (format!("chain of {n}"), count));
-        lengths.chain(SITUATIONS.map(str::to_string).into_iter().zip(self.situations))
+        let sweeps = self.sweeps.map(|count| ("a sweep that ends loans".to_string(), count));
+        lengths.chain(SITUATIONS.map(str::to_string).into_iter().zip(self.situations)).chain(sweeps)
     }
 
     pub fn print(&self) {
