@@ -24,7 +24,7 @@
  *
  * - Byte order: least byte first, which is how this machine holds words.
  * - Layout: keep RIGHTS_LAYOUT_DATE beside every stored image, and read no image with another date.
- * - Integrity: 'in order' is no checksum. Of the single-bit changes to the images of one state 5,587 left them in order, each then
+ * - Integrity: 'in order' is no checksum. Of the single-bit changes to the images of one state 8,385 left them in order, each then
  *   with another shift or other items, grants or loans. Where ticket 0 has gone, one bit of a ticket image makes a record that is all 0
  *   a ticket of right 0 on item 0. Keep a checksum beside every stored image, and compare it before rights_*_inspect.
  *

@@ -23,9 +23,10 @@ use Rattle.layouts.specs.Machine.{answerOf, stepOf}
 use Rattle.layouts.specs.Layouts.{grantBytes, liveIn, grantBit, held, inOrder, dropped, droppedAll, withdrawn}
 use Rattle.delegation.specs.Loans.{lender, borrower, loanDepth, lastShift, wordOf, wordFrom, wordNames, loanWords, shiftIn, used, loansKept, loansInOrder}
 use Rattle.delegation.specs.Images.{Images, images, standingIn, WordCarries, ImageChain}
-use Rattle.delegation.specs.ChainUnit.{chainUnit, chainStands, chainLent, chainGuard, chainSized, chainInOrder, chainFacts, chainDropped, chainWithdrawn, chainAfter, chainCheckNumber, chainFound, NobodyGains}
+use Rattle.delegation.specs.ChainUnit.{chainUnit, chainStands, chainLent, chainGuard, chainSized, chainInOrder, chainFacts, chainDropped, chainWithdrawn, chainAfter, chainCount, chainCheckNumber, chainFound, NobodyGains}
 use Rattle.bits.proofs.Sets.{by-cases, fst, snd, both, all-true, any-cong, any-kept, any-fewer, any-less, any-gone, any-same}
 use Rattle.model.proofs.Commands.{small}
+use Rattle.model.proofs.Answers.{result-either}
 use Rattle.model.proofs.Chain.{chain-map}
 use Rattle.model.proofs.Invariant.{passed, accepted}
 use Rattle.model.proofs.EndsLoans.{holds-on}
@@ -209,8 +210,8 @@ withdrawn-fewer x p o r h t = stands-fewer-all (ofEachDepth p o r) x h t
 pub either-way : (C : Images → Type 0) (s : Images) (c : Command) → C s → (answerOf chainUnit s c ≡ 0 → C (stepOf chainUnit s c))
     → C (stepOf chainUnit s c)
 either-way C s c same done =
-    by-cases (eqb (answerOf chainUnit s c) 0) (λ e. done (eqb-true (answerOf chainUnit s c) 0 e))
-    (λ e. let z : stepOf chainUnit s c ≡ s = rw e in subst C (sym z) same)
+    result-either C s (chainAfter s (argumentsOf c)) (answerOf chainUnit s c) (chainCount s (argumentsOf c .verb)) same
+    (λ e. subst C (stepped s c e) (done e))
 
 -- the chains after a command were chains before
 abbrev Fewer : Images → Images → Type 0

@@ -2,16 +2,16 @@
 -- sweep found the images in order, so the loan words after it are those before that are not past, and the shift is the same. At this shift
 -- or a later one every loan that carries is among them, so a check picks the loans that it would have picked before, and finds the same
 -- (`sweep-checks`, `sweep-checks-now`).
-use mathlib.Core.Path.{_≡_, refl, sym, ap, ap₂, _∙_, subst}
-use mathlib.Core.Bool.{Bool, true, false, not, _&&_, cond}
+use mathlib.Core.Path.{_≡_, refl, sym, ap, _∙_, subst}
+use mathlib.Core.Bool.{Bool, true, not, _&&_}
 use mathlib.Core.List.{List}
 use mathlib.Core.Logic.{_↔_}
 use Prim.Native.Nat.{ℕ, _+_, _*_, _≤_}
 use native.Mathlib.Omega.{arith}
 use native.Mathlib.Nat.{le-refl}
-use borrow.Author.Tests.{eqb-true, ne-eqb, lt-leb}
+use borrow.Author.Tests.{eqb-true, lt-leb}
 use lib.ListN.{length}
-use lib.Dec.{eqb, leb}
+use lib.Dec.{eqb}
 use Rattle.bits.specs.Sets.{any, keep, count}
 use Rattle.model.specs.declared.Command.the-variants.{Lend, Sweep}
 use Rattle.model.specs.Commands.{argumentsOf, mostLoans}
@@ -24,8 +24,9 @@ use Rattle.delegation.specs.Loans.{lender, borrower, loanDepth, lastShif
 use Rattle.delegation.specs.Images.{Images, images, WordCarries, ImageChain}
 use Rattle.delegation.specs.Picking.{picks, picked}
 use Rattle.delegation.specs.Search.{foundOf}
-use Rattle.delegation.specs.ChainUnit.{chainUnit, chainSized, chainInOrder, chainFacts, chainCheckNumber, chainFound, chainAt, SameAnswers}
+use Rattle.delegation.specs.ChainUnit.{chainUnit, chainSized, chainInOrder, chainFacts, chainAt, SameAnswers}
 use Rattle.bits.proofs.Sets.{by-cases, fst, snd, both, all-true, keep-cong, keep-keep, count-kept, count-gone}
+use Rattle.model.proofs.Answers.{result-refused, result-counted}
 use Rattle.model.proofs.Chain.{chain-map}
 use Rattle.model.proofs.Invariant.{passed}
 use Rattle.model.proofs.Shifts.{earlier-carries}
@@ -46,12 +47,6 @@ module _ (s : Images) (by : ℕ) where
   -- both images after an accepted sweep
   abbrev swept : Images
   swept = images (s .grants) left
-
-  -- a sweep that counted was accepted
-  accepted : 1 ≤ countedOf chainUnit s (Sweep by) → answerOf chainUnit s (Sweep by) ≡ 0
-  accepted h =
-      by-cases (eqb (answerOf chainUnit s (Sweep by)) 0) (λ e. eqb-true _ _ e)
-      (λ e. let z : countedOf chainUnit s (Sweep by) ≡ 0 = rw e in absurd (omega (arith, h, z)))
 
   module _ (e : answerOf chainUnit s (Sweep by) ≡ 0) where
     -- the images were in order
@@ -164,7 +159,7 @@ module _ (s : Images) (by : ℕ) where
       → answerOf chainUnit s (Lend lender to on right depth until) ≡ 10
       → answerOf chainUnit (stepOf chainUnit s (Sweep by)) (Lend lender to on right depth until) ≡ 0
   room-again h lender to on right depth until e =
-      let a = accepted h in
+      let a = result-counted s swept (answerOf chainUnit s (Sweep by)) (count past (used (s .loans))) h in
       let c : countedOf chainUnit s (Sweep by) ≡ count past (used (s .loans)) = rw a in
       let few : countOf left + 1 ≤ mostLoans
       = omega (arith, sum-of a, few-used (live a) (s .loans) (long a) (order a), c, h, count-left a) in
@@ -182,7 +177,7 @@ module _ (s : Images) (by : ℕ) where
   pub chain-sweep : Sweeps (answerOf chainUnit) (countedOf chainUnit) (stepOf chainUnit) (λ (x : Images). used (x .loans)) lastShift
       (λ (x : Images). shiftIn (x .loans)) chainAt ImageChain s by
   chain-sweep = record {
-    nothing = λ n. let f = ne-eqb (answerOf chainUnit s (Sweep by)) 0 n in (rw f, rw f);
+    nothing = result-refused s swept (answerOf chainUnit s (Sweep by)) (count past (used (s .loans)));
     left = λ e. ap (λ (x : Images). used (x .loans)) (after e) ∙ left-used e;
     many = λ e. rw e;
     sum =

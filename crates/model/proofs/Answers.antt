@@ -2,9 +2,9 @@
 -- one that names the number, and the case besides.
 use mathlib.Core.Path.{_≡_, refl, sym, ap, _∙_}
 use mathlib.Core.Bool.{Bool, true, false, not, _&&_, cond, false≢true}
-use Prim.Native.Nat.{ℕ, zero, suc, _-_}
+use Prim.Native.Nat.{ℕ, zero, suc, _-_, _≤_}
 use native.Mathlib.Omega.{arith}
-use borrow.Author.Tests.{ne-eqb}
+use borrow.Author.Tests.{eqb-true, ne-eqb}
 use lib.Dec.{eqb}
 use Rattle.model.specs.declared.Facts.{Facts}
 use Rattle.model.specs.declared.Verb.{Verb}
@@ -13,7 +13,7 @@ use Rattle.model.specs.declared.Answer.{Answer}
 use Rattle.model.specs.declared.Answer.the-variants as is
 use Rattle.model.specs.declared.Checked.the-variants as checked
 use Rattle.model.specs.declared.ChainChecked.the-variants as chain
-use Rattle.model.specs.Answers.{answer, numberOf, answerFor, Numbered, checkedNumber, checkedYes, checkedOf, Found, nothing, chainNumber, foundIn, foundSaid, chainCheckedOf, table, asked, knows}
+use Rattle.model.specs.Answers.{answer, numberOf, answerFor, Numbered, resultOf, checkedNumber, checkedYes, checkedOf, Found, nothing, chainNumber, foundIn, foundSaid, chainCheckedOf, table, asked, knows}
 use Rattle.model.specs.Commands.{fits, items, rightDepth, isEmpty}
 
 pub answer-for : (a : Answer) → answerFor (numberOf a) ≡ a
@@ -42,6 +42,27 @@ answer-is a n e = sym (answer-for a) ∙ ap answerFor e
 
 pub numbered : (a : Answer) (n : ℕ) → numberOf a ≡ n → Numbered a n
 numbered a n e = (e, answer-is a n e)
+
+-- ---- the result of a command, in any state
+-- a refused one counts nothing and leaves the state
+pub result-refused : {S : Type 0} (s x : S) (n k : ℕ) → (n ≡ 0 → ⊥) → (resultOf s n k x .count ≡ 0) × (resultOf s n k x .state ≡ s)
+result-refused s x n k h = let f = ne-eqb n 0 h in (rw f, rw f)
+
+-- one that counted was accepted
+pub result-counted : {S : Type 0} (s x : S) (n k : ℕ) → 1 ≤ resultOf s n k x .count → n ≡ 0
+result-counted s x n k h = go (eqb n 0) refl h
+  where
+    go : (b : Bool) → eqb n 0 ≡ b → 1 ≤ cond b k 0 → n ≡ 0
+    go true e h = eqb-true n 0 e
+    go false e h = absurd (omega (arith, h))
+
+-- what holds of the state, and of what is left where it is accepted, holds of what is left
+pub result-either : {S : Type 0} (P : S → Type 0) (s x : S) (n k : ℕ) → P s → (n ≡ 0 → P x) → P (resultOf s n k x .state)
+result-either P s x n k same done = go (eqb n 0) refl
+  where
+    go : (b : Bool) → eqb n 0 ≡ b → P (cond b x s)
+    go true e = done (eqb-true n 0 e)
+    go false e = same
 
 -- a number that some answer has
 pub record Known (n : ℕ) : Type 0 where

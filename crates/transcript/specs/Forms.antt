@@ -11,8 +11,8 @@ abbrev pub yesNo : Bool → List ℕ
 yesNo b = cond b (bytes "yes") (bytes "no")
 
 -- line n: as in 'list=0 row=0 chain=0', 'list=- row=- chain=0', 'list=- row=- chain=0 swept=2', 'list=- row=- chain=4 swept=-',
--- 'list=3 row=3 chain=3 depth=- via=-', 'list=no row=no chain=no depth=- via=-' and 'list=no row=no chain=yes depth=0 via=3,4'. List and row never differ; the chain unit's
--- number may, after a drop
+-- 'list=3 row=3 chain=3 depth=- via=-', 'list=no row=no chain=no depth=- via=-' and 'list=no row=no chain=yes depth=0 via=3,4'. List and
+-- row never differ; the chain unit's number may, after a drop
 pub data Form (n : ℕ) : List ℕ → Type 0 where
   numbers : (a b : ℕ) → Form n (lineText n (shown a) (shown a) (shown b) [])
   passed : (a : ℕ) → Form n (lineText n (bytes "-") (bytes "-") (shown a) [])
