@@ -18,6 +18,13 @@ struct Copy {
     top: PathBuf,
 }
 
+/// A copy that stayed would have sources that `rt` finds in no crate of this repository.
+impl Drop for Copy {
+    fn drop(&mut self) {
+        let _ = fs::remove_dir_all(&self.top);
+    }
+}
+
 impl Copy {
     fn new(name: &str) -> Self {
         let top = Path::new(env!("CARGO_TARGET_TMPDIR")).join(format!("building {name}"));
