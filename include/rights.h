@@ -14,7 +14,7 @@
  * - Other code: memset, and nothing else. No heap, no thread, no operating system, no state of its own.
  * - Stack: RIGHTS_STACK_BYTES below the caller's frame, arguments included, is enough for any call but one on a ticket image, which
  *   sorts up to 1,024 numbers there: RIGHTS_TICKETS_STACK_BYTES is enough for those. Of the others the most that was measured is 5,319
- *   bytes, by rights_chains_check; none beside it used over 500.
+ *   bytes, by rights_chains_check; none beside it used over 520.
  * - Threads: checks, subjects, inspections, records and conversions from one image may run side by side. A call that writes an image
  *   needs it alone: no other call on that image meanwhile. Calls on different buffers never meet.
  * - Interrupts and loss of power: no call is atomic. What is stored must change as a whole: run the command on a copy, and where it
