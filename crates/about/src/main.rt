@@ -1,4 +1,7 @@
 // Writes the version and the date of the layout, in the words of docs/SHEET.md.
+
+#![tactic(auto)]
+
 use version::{Layout, Version};
 
 const OUT: i32 = 1;

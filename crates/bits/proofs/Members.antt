@@ -88,8 +88,8 @@ module _ (w n : ℕ) where
   members-below = all-members (λ i. ltb i w) ∙ below_intro w _ (λ i l. rw (lt-ltb i w l) (or-true (not (bit n i))))
 
   -- the number is told by its members
-  pub number_of-members : n < 2 ^ w → of_bits w (λ i. any (eqb i) (members w n)) ≡ n
-  number_of-members h =
+  pub number_of_members : n < 2 ^ w → of_bits w (λ i. any (eqb i) (members w n)) ≡ n
+  number_of_members h =
       ext w _ n (of_bits_lt w _) h
       (λ i l. bit-of_bits w (λ i. any (eqb i) (members w n)) i l ∙ is_member i ∙ ap (λ b. b && bit n i) (lt-ltb i w l))
 

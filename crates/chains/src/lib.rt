@@ -1,5 +1,8 @@
 // The chain unit: grants with depths in an image of 32,776 bytes, the shift and the loans in an image of 1,025 words, the ten commands
 // over both, and the check that follows carrying loans through anyone with depth left.
+
+#![tactic(auto)]
+
 ghost use Rattle.std.specs.Prelude.{◌≡◌, true, not, ◌&&◌, ◌+◌, ◌*◌, ◌≤◌, ◌<◌, eqb, length};
 ghost use Rattle.bits.specs.Sets.{count};
 ghost use Rattle.model.specs.declared.Command.TheVariants.{Create, Delete, Allow, Withdraw, Lend, Recall, AllowSet, Drop, Sweep};

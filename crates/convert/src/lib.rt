@@ -1,5 +1,8 @@
 // Lists turned into rows, and rows into lists: the live set first, then the grants, block by block. Only places with a grant are
 // visited.
+
+#![tactic(auto)]
+
 ghost use Rattle.std.specs.Prelude.{◌≡◌, true, ℕ, ◌+◌, ◌*◌, ◌/◌, ◌%◌, ◌≤◌, ◌<◌, length, get_or};
 ghost use Rattle.std.specs.Int.Count.{count_trailing_zeros};
 ghost use Rattle.bits.specs.Bits.{bit, without_bit, of_bits};

@@ -7,7 +7,7 @@ ghost use Rattle.delegation.specs.Loans.{word_of, cut, last_shift, lender, loan_
 use model::{Depth, DepthRead, Item, ItemRead, Right, RightRead, Shift, ShiftRead};
 
 // Word 0 of a loans image, its upper and its lower half: the present shift, and how many loans stand.
-#[derive(Drop)]
+#[derive(Clone, Copy)]
 pub struct Header {
     pub shift: u16,
     pub count: u16,

@@ -1,6 +1,9 @@
 // The grants image of a chain unit, 32,776 bytes: bytes 0 to 7 are the live set, least first; byte 8 + 512 * on + 64 * right + person
 // has bit d for each depth d of the person's grants there. These are helpers for the chain unit: it has judged lengths and ranges, so
 // each function may require them.
+
+#![tactic(auto)]
+
 ghost use Rattle.std.specs.Prelude.{◌≡◌, ◌+◌, ◌*◌, ◌<◌, length, get_or};
 ghost use Rattle.model.specs.Journal.{grant};
 ghost use Rattle.layouts.specs.Live.{masks_of};
@@ -13,7 +16,7 @@ use model::{Depth, Item, ItemSet, Right};
 mod scan;
 
 // The two bytes of a fresh image that are not 0: the first of the live set, and the root item's edit grant on itself.
-#[derive(Drop)]
+#[derive(Clone, Copy)]
 pub struct Grants {
     pub live: u8,
     pub edit: u8,

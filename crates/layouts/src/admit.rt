@@ -5,14 +5,14 @@ ghost use Rattle.layouts.specs.Admission.{command_admission, check_admission};
 use model::{Answer, Command, Item, Question, Right, Typed, Within};
 
 // A refusal by 1, 2 or 3, or the arguments of a command within their limits.
-#[derive(Drop)]
+#[derive(Clone, Copy)]
 pub enum CommandAdmission {
     Refused(Answer),
     Ready(Typed),
 }
 
 // The same of a check.
-#[derive(Drop)]
+#[derive(Clone, Copy)]
 pub enum CheckAdmission {
     Refused(Answer),
     Ready { who: Item, on: Item, right: Right },

@@ -5,7 +5,7 @@ ghost use Rattle.lines.specs.Collect.{before_newline, nothing_held, begun, past,
 use crate::Parsed;
 
 // How much of a line is held, and whether it is longer than the buffer.
-#[derive(Drop)]
+#[derive(Clone, Copy)]
 pub struct Partial {
     pub len: usize,
     pub over: bool,
@@ -74,7 +74,7 @@ fn after_line(n: usize, size: usize) -> usize
 }
 
 // Whether the line ended, how many bytes were taken, and what is held.
-#[derive(Drop)]
+#[derive(Clone, Copy)]
 pub struct Fed {
     pub ended: bool,
     pub used: usize,

@@ -1,4 +1,7 @@
 // Command lines: what a line asks for, lines put together from chunks of input, and bytes and numbers as text.
+
+#![tactic(auto)]
+
 use model::Command;
 
 pub mod collect;
@@ -13,7 +16,7 @@ ghost use Rattle.lines.specs.Line.{starts_with, digit, number_at, hexadecimal, h
 ghost use Rattle.lines.specs.Reader.{Digits, field_at, key_at, parts_of, most, Blank, FilledAs, Only};
 
 // A number or a set, and the place after it, or none.
-#[derive(Drop)]
+#[derive(Clone, Copy)]
 enum Number {
     Value(u64, usize),
     Bad,
@@ -242,7 +245,7 @@ fn read_by(values: &mut [u64; MOST], s: &[u8], verb: usize) -> bool
 }
 
 // What a line asks for.
-#[derive(Drop)]
+#[derive(Clone, Copy)]
 pub enum Parsed {
     Run(Command),
     Ask { who: u32, on: u32, right: u32 },

@@ -1,5 +1,8 @@
 // The lists unit: access control lists. An image has 513 words: word 0 is the live set, bit i for item i; word 1 + 8 * on + right
 // is the list of item on and that right, bit s for each person s granted it.
+
+#![tactic(auto)]
+
 ghost use Rattle.std.specs.Prelude.{◌≡◌, ◌+◌, ◌*◌, ◌%◌, ◌<◌, eqb, length, get_or};
 ghost use Rattle.model.specs.declared.Command.TheVariants.{Create, Delete, Allow, Withdraw, AllowSet};
 ghost use Rattle.bits.specs.Sets.{all, all_below};
@@ -21,7 +24,7 @@ use model::{
 };
 
 // The two words of a fresh unit that are not 0: the live set, and the list of the root item's right to edit.
-#[derive(Drop)]
+#[derive(Clone, Copy)]
 pub struct Lists {
     pub live: u64,
     pub edit: u64,

@@ -56,7 +56,7 @@ fn are_shaped(s: &[u32]) -> bool
 }
 
 // Which fields of the loans read so far name a dead item: 0 where none does. A sum for each field, so that no look-up waits for another.
-#[derive(Drop)]
+#[derive(Clone, Copy)]
 struct Dead {
     lender: u8,
     item: u8,

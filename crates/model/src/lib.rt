@@ -1,26 +1,29 @@
 // Items, rights, depths, shifts and sets of items, the commands that carry them, and the one table of refusals.
+
+#![tactic(auto)]
+
 ghost use Rattle.std.specs.Prelude.{◌≡◌};
 ghost use Rattle.model.specs.Commands.{items, right_depth, shifts, arguments, arguments_of, sweeps, is_sweep, is_empty, fits, typed_of, within_of, raw_of, question_of, item_of, right_of, depth_of, shift_of};
 ghost use Rattle.model.specs.Answers.{number_of, answer_for, refusal, checked_of, flat_edit, flat, knows, table, ◌when◌else◌};
 
 // An item number, 0 to 63.
-#[derive(Drop)]
+#[derive(Clone, Copy)]
 pub struct Item(u32);
 
 // A right number, 0 to 7.
-#[derive(Drop)]
+#[derive(Clone, Copy)]
 pub struct Right(u32);
 
 // A depth, 0 to 7.
-#[derive(Drop)]
+#[derive(Clone, Copy)]
 pub struct Depth(u32);
 
 // A shift, 0 to 255. As the last shift of a loan, 0 says that the loan is open-ended.
-#[derive(Drop)]
+#[derive(Clone, Copy)]
 pub struct Shift(u32);
 
 // A set of items, bit i for item i. Every number of 64 bits is one.
-#[derive(Drop)]
+#[derive(Clone, Copy)]
 pub struct ItemSet(u64);
 
 impl Item {
@@ -153,35 +156,35 @@ impl ItemSet {
 }
 
 // What a number is as an item.
-#[derive(Drop)]
+#[derive(Clone, Copy)]
 pub enum ItemRead {
     Within(Item),
     Beyond,
 }
 
 // What a number is as a right.
-#[derive(Drop)]
+#[derive(Clone, Copy)]
 pub enum RightRead {
     Within(Right),
     Beyond,
 }
 
 // What a number is as a depth.
-#[derive(Drop)]
+#[derive(Clone, Copy)]
 pub enum DepthRead {
     Within(Depth),
     Beyond,
 }
 
 // What a number is as a shift.
-#[derive(Drop)]
+#[derive(Clone, Copy)]
 pub enum ShiftRead {
     Within(Shift),
     Beyond,
 }
 
 // A command with the numbers that arrived.
-#[derive(Drop)]
+#[derive(Clone, Copy)]
 pub enum Command {
     Create {
         by: u32,
@@ -244,7 +247,7 @@ pub enum Command {
 }
 
 // What a command says to do.
-#[derive(Drop)]
+#[derive(Clone, Copy)]
 pub enum Verb {
     Create,
     Delete,
@@ -259,7 +262,7 @@ pub enum Verb {
 }
 
 // What a command changes in lists, rows and the grants of a chain unit alike.
-#[derive(Drop)]
+#[derive(Clone, Copy)]
 pub enum Edit {
     Create,
     Delete,
@@ -270,7 +273,7 @@ pub enum Edit {
 }
 
 // The items that a command names.
-#[derive(Drop)]
+#[derive(Clone, Copy)]
 struct Items {
     by: u32,
     to: u32,
@@ -278,14 +281,14 @@ struct Items {
 }
 
 // The right and the depth that it names.
-#[derive(Drop)]
+#[derive(Clone, Copy)]
 struct RightDepth {
     right: u32,
     depth: u32,
 }
 
 // Any command's arguments. The shift is the last one of a loan, or the one that begins.
-#[derive(Drop)]
+#[derive(Clone, Copy)]
 pub struct Arguments {
     pub verb: Verb,
     pub edit: Edit,
@@ -299,7 +302,7 @@ pub struct Arguments {
 }
 
 // The same, each number within its range.
-#[derive(Drop)]
+#[derive(Clone, Copy)]
 pub struct Typed {
     pub verb: Verb,
     pub edit: Edit,
@@ -312,7 +315,7 @@ pub struct Typed {
     pub set: ItemSet,
 }
 
-#[derive(Drop)]
+#[derive(Clone, Copy)]
 pub enum Within {
     Typed(Typed),
     Beyond,
@@ -320,7 +323,7 @@ pub enum Within {
 
 // What the table asks of a state for one command: whether by, on and to live, every member of the set lives, by edits on, the shift
 // goes back while a loan has a last one, the loan is past its last shift, and loans are full.
-#[derive(Drop)]
+#[derive(Clone, Copy)]
 pub struct Facts {
     pub by: bool,
     pub on: bool,
@@ -333,7 +336,7 @@ pub struct Facts {
 }
 
 // What a command answers.
-#[derive(Drop)]
+#[derive(Clone, Copy)]
 pub enum Answer {
     Done,
     WrongLength,
@@ -383,7 +386,7 @@ impl Answer {
 }
 
 // What a command of a chain unit returns: an answer, and how many loans it swept, 0 where it counts nothing.
-#[derive(Drop)]
+#[derive(Clone, Copy)]
 pub struct Outcome {
     pub answer: Answer,
     pub count: u32,
@@ -407,14 +410,14 @@ impl Outcome {
 }
 
 // What a unit makes of any command: an answer, or nothing where the unit lacks it.
-#[derive(Drop)]
+#[derive(Clone, Copy)]
 pub enum Offered {
     Answered(Answer),
     Passed,
 }
 
 // What a check answers.
-#[derive(Drop)]
+#[derive(Clone, Copy)]
 pub enum Checked {
     Yes,
     No,
@@ -430,14 +433,14 @@ impl Checked {
 }
 
 // What a unit says of its subjects: a number, and the persons with at least one grant, bit i for item i; 0 beside a refusal.
-#[derive(Drop)]
+#[derive(Clone, Copy)]
 pub struct SubjectSet {
     pub answer: Answer,
     pub persons: u64,
 }
 
 // What the check of a chain unit answers.
-#[derive(Drop)]
+#[derive(Clone, Copy)]
 pub enum ChainChecked {
     Yes { depth: Depth, persons: u32 },
     No,
@@ -445,7 +448,7 @@ pub enum ChainChecked {
 }
 
 // The arguments of a check, each within its range.
-#[derive(Drop)]
+#[derive(Clone, Copy)]
 pub enum Question {
     Asked { who: Item, on: Item, right: Right },
     Beyond,

@@ -7,7 +7,7 @@ ghost use Rattle.output.specs.Output.{reply, malformed_reply, offered_of, comman
 use model::{Answer, ChainChecked, Checked, Command, Offered, Outcome};
 
 // A unit's field: its number, yes or no, or that it passes the command over.
-#[derive(Drop)]
+#[derive(Clone, Copy)]
 pub enum Said {
     Number(u32),
     Yes,
@@ -17,7 +17,7 @@ pub enum Said {
 
 // What comes after the three fields: nothing; after a check two dashes, or the depth and number of persons of a chain; after a sweep its
 // count, or a dash where it was refused.
-#[derive(Drop)]
+#[derive(Clone, Copy)]
 pub enum Tail {
     Nothing,
     Dashes,
@@ -27,7 +27,7 @@ pub enum Tail {
 }
 
 // What the three units reply to a line; the persons of a chain stand in the chain buffer beside it.
-#[derive(Drop)]
+#[derive(Clone, Copy)]
 pub struct Reply {
     pub list: Said,
     pub row: Said,

@@ -1,4 +1,7 @@
 // The carrying loans of an item and right, picked out of a loans image in two runs, before a search begins.
+
+#![tactic(auto)]
+
 ghost use Rattle.std.specs.Prelude.{◌≡◌, true, cond, ◌++◌, ◌+◌, ◌*◌, ◌%◌, ◌≤◌, ◌<◌, max, eqb, length, take};
 ghost use Rattle.bits.specs.Sets.{keep};
 ghost use Rattle.model.specs.Commands.{most_loans};

@@ -1,6 +1,9 @@
 // The program: standard input to standard output, over three fresh units. It reads, calls the command reader, and writes.
 // No contract can say which bytes are read or written. What they make of the units, the line buffer and the place in the run is said;
 // of the output buffer, only what the closing lines put there.
+
+#![tactic(auto)]
+
 ghost use Rattle.std.specs.Prelude.{◌≤◌, length};
 ghost use Rattle.lines.specs.Collect.{nothing_held};
 ghost use Rattle.reader.specs.Replies.{units_in};
@@ -15,7 +18,7 @@ use rows::Rows;
 use stream::Progress;
 
 // Where a run stands after a turn: it goes on, the input ended, or a read or a write failed.
-#[derive(Drop)]
+#[derive(Clone, Copy)]
 enum Turn {
     Going(Progress),
     Ended,

@@ -1,4 +1,7 @@
 // A line run on the three units, and the three units made fresh.
+
+#![tactic(auto)]
+
 ghost use Rattle.lines.specs.declared.Parsed.TheVariants.{Run, Ask};
 ghost use Rattle.output.specs.Output.{lent_buffer};
 ghost use Rattle.reader.specs.Replies.{units_in, Replies, Starts};
@@ -8,7 +11,7 @@ use model::{Answer, Command};
 use output::reply::Reply;
 
 // A reply, and the chain buffer after the line.
-#[derive(Drop)]
+#[derive(Clone, Copy)]
 pub struct Replied {
     pub reply: Reply,
     pub via: [u8; 8],

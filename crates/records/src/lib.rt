@@ -1,5 +1,8 @@
 // The records of a ticket unit as structs in a lent slice. No function that is lent structs can be called from another one here: the three
 // that are lent some are exported, in crate rights_c (records_unit), and this file has what they call, by value.
+
+#![tactic(auto)]
+
 ghost use Rattle.std.specs.Prelude.{◌≡◌, get_or};
 ghost use Rattle.ticketing.specs.Machine.{vacant};
 ghost use Rattle.ticketing.specs.Image.{ticket_at};
@@ -10,7 +13,7 @@ use model::Question;
 use ticketing::Ticket;
 
 // The number of reading an image into a slice, and how many places are to be filled: none beside a refusal.
-#[derive(Drop)]
+#[derive(Clone, Copy)]
 pub struct Reading {
     pub number: u32,
     pub count: usize,
@@ -24,7 +27,7 @@ impl Reading {
 }
 
 // The number of a check over a slice, how many places are to be looked at, and what is asked.
-#[derive(Drop)]
+#[derive(Clone, Copy)]
 pub struct Inquiry {
     pub number: u32,
     pub count: usize,

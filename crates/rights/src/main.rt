@@ -1,5 +1,8 @@
 // Answers command lines: document 01's listing is its test. The buffers that a run is lent stand here: the three units, the line that is
 // being read, and the output.
+
+#![tactic(auto)]
+
 use grants::Grants;
 use lists::Lists;
 use loans::Loans;

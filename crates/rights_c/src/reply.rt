@@ -37,7 +37,7 @@ pub fn chain_number(c: ChainChecked) -> u32
 }
 
 // The depth and the number of persons of a yes; 0 and 0 for no and beside a refusal.
-#[derive(Drop)]
+#[derive(Clone, Copy)]
 pub struct Best {
     pub depth: u32,
     pub persons: u32,

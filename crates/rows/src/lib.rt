@@ -1,5 +1,8 @@
 // The rows unit: capability rows. An image has 4,104 bytes: bytes 0 to 7 are the live set, least first; byte 8 + 64 * person + on
 // has bit r for each right r that the person has on item on.
+
+#![tactic(auto)]
+
 ghost use Rattle.std.specs.Prelude.{◌≡◌, ◌+◌, ◌*◌, ◌<◌, length, get_or};
 ghost use Rattle.model.specs.declared.Command.TheVariants.{Create, Delete, Allow, Withdraw, AllowSet};
 ghost use Rattle.model.specs.Commands.{Ranged, raw_of};
@@ -19,7 +22,7 @@ use model::{
 mod scan;
 
 // The two bytes of a fresh unit that are not 0: the first of the live set, and the root item's rights on itself.
-#[derive(Drop)]
+#[derive(Clone, Copy)]
 pub struct Rows {
     pub live: u8,
     pub edit: u8,

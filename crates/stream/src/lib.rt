@@ -1,4 +1,7 @@
 // Input in chunks, and the output for it: what the program does between reading and writing.
+
+#![tactic(auto)]
+
 ghost use Rattle.std.specs.Prelude.{◌≡◌, true, ◌+◌, ◌<◌, length};
 ghost use Rattle.lines.specs.Collect.{nothing_held, held_line};
 ghost use Rattle.output.specs.Output.{room};
@@ -11,7 +14,7 @@ use output::has_room;
 use output::reply::Reply;
 
 // How many lines ended, and how much of the next is held in the line buffer.
-#[derive(Drop)]
+#[derive(Clone, Copy)]
 pub struct Progress {
     pub lines: u64,
     pub held: Partial,
@@ -31,7 +34,7 @@ impl Progress {
 }
 
 // How much of a chunk one piece was, the place after its output, and where the run stands.
-#[derive(Drop)]
+#[derive(Clone, Copy)]
 struct Piece {
     used: usize,
     at: usize,
@@ -105,7 +108,7 @@ fn take_piece(
 }
 
 // How much of a chunk was taken, how many bytes of output were written, and where the run stands.
-#[derive(Drop)]
+#[derive(Clone, Copy)]
 pub struct Consumed {
     pub used: usize,
     pub written: usize,

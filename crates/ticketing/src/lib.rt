@@ -1,10 +1,13 @@
 // Tickets: the record of one, and the commands of a ticket unit.
+
+#![tactic(auto)]
+
 use model::Answer;
 
 // A ticket of document 02 (K6): its number, the item and the right that it opens, who issued it, and the set of its holders, bit i for
 // item i. It lives while it has a holder; the record of a place without a live ticket is all zero.
 #[repr(C)]
-#[derive(Drop)]
+#[derive(Clone, Copy)]
 pub struct Ticket {
     pub number: u32,
     pub item: u8,
@@ -14,7 +17,7 @@ pub struct Ticket {
 }
 
 // A command with the numbers that arrived.
-#[derive(Drop)]
+#[derive(Clone, Copy)]
 pub enum TicketCommand {
     Create { by: u32, on: u32 },
     Generate { by: u32, on: u32, right: u32 },
@@ -24,7 +27,7 @@ pub enum TicketCommand {
 }
 
 // What generate answers: the number of the new ticket, 0 beside a refusal.
-#[derive(Drop)]
+#[derive(Clone, Copy)]
 pub struct Generated {
     pub answer: Answer,
     pub number: u32,

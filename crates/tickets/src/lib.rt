@@ -1,6 +1,9 @@
 // The ticket unit. An image has 2,050 words: word 0 is the live set, bit i for item i; word 1 is the next number; then come 1,024 places
 // of two words, the record of a ticket, number + item * 2^32 + right * 2^40 + issuer * 2^48, and the set of its holders. A place
 // without a live ticket is 0.
+
+#![tactic(auto)]
+
 ghost use Rattle.std.specs.Prelude.{◌≡◌, ◌&&◌, map, ◌+◌, ◌*◌, ◌<◌, ◌≤◌, eqb, length, get_or, take};
 ghost use Rattle.bits.specs.Sets.{any, all};
 ghost use Rattle.model.specs.Answers.{number_of, ◌when◌else◌};
@@ -18,7 +21,7 @@ use model::{Answer, Checked, Item, Right};
 use ticketing::Generated;
 
 // The three words of a fresh unit that are not 0: the live set, the next number, and the holders of ticket 0.
-#[derive(Drop)]
+#[derive(Clone, Copy)]
 pub struct Tickets {
     pub live: u64,
     pub next: u64,
@@ -100,7 +103,7 @@ fn is_sound(w: u64, h: u64, live: u64, next: u64) -> bool
 }
 
 // What a scan of the places finds: whether each is in order, and how many live tickets there are.
-#[derive(Drop)]
+#[derive(Clone, Copy)]
 struct Found {
     ok: bool,
     count: usize,

@@ -1,8 +1,11 @@
 // Which engine this is: the version of its functions, and the date of the images' layout. A change of layout changes the date.
+
+#![tactic(auto)]
+
 ghost use Rattle.std.specs.Prelude.{◌≡◌};
 
 // The version, by three numbers. What callers see may change with the minor one.
-#[derive(Drop)]
+#[derive(Clone, Copy)]
 pub struct Version {}
 
 impl Version {
@@ -21,7 +24,7 @@ impl Version {
 }
 
 // The layout of the images, by its date.
-#[derive(Drop)]
+#[derive(Clone, Copy)]
 pub struct Layout {}
 
 impl Layout {
