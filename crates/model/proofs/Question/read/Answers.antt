@@ -1,0 +1,24 @@
+-- Two tests, the items and the right, whose conjunction decides in the definition: either that fails gives Beyond, and a question
+-- is read where both pass.
+use borrow.Author.Tests.{not-true, not-false}
+use mathlib.Core.Path.{sym, ◌∙◌}
+use Rattle.model.proofs.Question.read.Goals as goal
+
+pub returns-then-not-are_items : goal.returns-then-not-are_items
+returns-then-not-are_items c = simp (sym c.are_items.ensures ∙ not-true _ c.if-not-are_items.true-raw)
+
+pub returns-then-not-are_right_depth : goal.returns-then-not-are_right_depth
+returns-then-not-are_right_depth c =
+    simp (
+      sym c.are_items.ensures
+          ∙ not-false _ c.if-not-are_items.false-raw,
+      sym c.are_right_depth.ensures ∙ not-true _ c.if-not-are_right_depth.true-raw,
+    )
+
+pub returns : goal.returns
+returns c =
+    simp (
+      sym c.are_items.ensures
+          ∙ not-false _ c.if-not-are_items.false-raw,
+      sym c.are_right_depth.ensures ∙ not-false _ c.if-not-are_right_depth.false-raw,
+    )
