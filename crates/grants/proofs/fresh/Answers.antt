@@ -17,7 +17,7 @@ returns-then-grants-ne-BYTES c = sym (rw (ne_eqb (length c.args.grants.now) gran
 pub returns : goal.returns
 unfolding grant_bytes
 returns c =
-    let l : length c.clear_each.new.image ≡ grant_cells = c.clear_each.auto.0 ∙ c.if-grants-ne-BYTES.false in
+    let l : length c.clear_each.new.image ≡ grant_cells = c.clear_each.auto.image ∙ c.if-grants-ne-BYTES.false in
     fresh-written grant_bytes bytes_laws 8 (λ z. omega arith) refl c.clear_each.new.image _ _ l
     (λ i. ap (λ s. get_or s i 0) c.clear_each.ensures ∙ zeroed-all c.args.grants.now grant_cells c.if-grants-ne-BYTES.false i)
     c.fresh-start.ensures.0 c.fresh-start.ensures.1

@@ -9,7 +9,7 @@ use Rattle.layouts.proofs.Edits.{create_is}
 use Rattle.lists.proofs.put_item.Goals as goal
 
 pub shape_of-image : goal.shape_of-image
-shape_of-image c = c.put_grant.auto.0 ∙ simp length-set
+shape_of-image c = c.put_grant.auto.image ∙ simp length-set
 
 pub returns : goal.returns
 unfolding lists
