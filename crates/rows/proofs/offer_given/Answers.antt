@@ -1,0 +1,17 @@
+-- A command that rows lack is passed over and changes nothing (`offers_passed`); any other is run (`offers_ran`).
+use mathlib.Core.Path.{sym, ◌∙◌}
+use borrow.Author.Tests.{not-true, not-false}
+use Rattle.layouts.specs.Layouts.{rows, flat_unit}
+use Rattle.layouts.proofs.Ends.{offers_ran, offers_passed}
+use Rattle.rows.proofs.offer_given.Goals as goal
+
+pub returns-then-not-is_flat : goal.returns-then-not-is_flat
+returns-then-not-is_flat c =
+    offers_passed (flat_unit rows) c.args.image.now c.args.c
+    (sym c.is_flat.ensures ∙ not-true _ c.if-not-is_flat.true-raw)
+
+pub returns : goal.returns
+returns c =
+    offers_ran (flat_unit rows) c.args.image.now c.args.c _ _
+    (sym c.is_flat.ensures ∙ not-false _ c.if-not-is_flat.false-raw)
+    c.run_given.ensures
