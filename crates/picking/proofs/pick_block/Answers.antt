@@ -1,0 +1,27 @@
+-- Where none of the loans is of the key, nothing is put behind those picked before (`keep-none`); where all are, all of them
+-- (`keep-every`); otherwise the loans are picked one by one.
+use native.Mathlib.Omega.{arith}
+use mathlib.Core.Path.{sym, ap, ◌∙◌}
+use mathlib.Core.List.{List, ◌++◌, append-nil}
+use Prim.Native.Nat.{ℕ}
+use lib.ListN.{take}
+use Rattle.picking.specs.Runs.{of_key}
+use Rattle.picking.proofs.Picking.{keep-none, keep-every}
+use Rattle.picking.proofs.pick_block.Goals as goal
+
+pub returns-then-n-eq0 : goal.returns-then-n-eq0
+returns-then-n-eq0 c =
+    let before : List ℕ = take c.args.m c.args.out.now in
+    record {
+      count = omega arith;
+      are = sym (ap (λ (x : List ℕ). before ++ x) (keep-none _ _ (sym c.count_of-n.ensures ∙ omega arith)) ∙ append-nil before);
+    }
+
+pub returns : goal.returns
+returns c =
+    record {
+      count = omega arith;
+      are = c.copy.ensures
+          ∙ ap (λ (x : List ℕ). take c.args.m c.args.out.now ++ x)
+          (sym (keep-every (of_key c.args.key) c.args.loans.now (omega (arith, c.count_of-n.ensures))));
+    }
