@@ -7,10 +7,10 @@ use Rattle.grants.proofs.in_order.Goals as goal
 
 pub returns-then-not-has : goal.returns-then-not-has
 returns-then-not-has c =
-    sym (order_is c.args.grants.now ∙ rw (sym c.has.ensures ∙ not-true _ c.if-not-has.true-raw))
+    sym (order_is c.args.grants.now ∙ rw (sym c.has.ensures ∙ c.if-not-has.true))
 
 pub returns : goal.returns
 returns c =
     c.items_ok.ensures
     ∙ sym (order_is c.args.grants.now
-    ∙ rw (sym c.has.ensures ∙ not-false _ c.if-not-has.false-raw))
+    ∙ rw (sym c.has.ensures ∙ c.if-not-has.false))

@@ -11,8 +11,8 @@ returns-then-image-ne-WORDS c = order-length lists c.args.image.now c.if-image-n
 
 pub returns-then-not-in_order : goal.returns-then-not-in_order
 unfolding lists
-returns-then-not-in_order c = order_broken lists _ c.if-image-ne-WORDS.false (sym c.in_order.ensures ∙ not-true _ c.if-not-in_order.true-raw)
+returns-then-not-in_order c = order_broken lists _ c.if-image-ne-WORDS.false (sym c.in_order.ensures ∙ c.if-not-in_order.true)
 
 pub returns : goal.returns
 unfolding lists
-returns c = order_done lists _ c.if-image-ne-WORDS.false (sym c.in_order.ensures ∙ not-false _ c.if-not-in_order.false-raw)
+returns c = order_done lists _ c.if-image-ne-WORDS.false (sym c.in_order.ensures ∙ c.if-not-in_order.false)

@@ -8,10 +8,10 @@ use Rattle.rows.proofs.offer_given.Goals as goal
 pub returns-then-not-is_flat : goal.returns-then-not-is_flat
 returns-then-not-is_flat c =
     offers_passed (flat_unit rows) c.args.image.now c.args.c
-    (sym c.is_flat.ensures ∙ not-true _ c.if-not-is_flat.true-raw)
+    (sym c.is_flat.ensures ∙ c.if-not-is_flat.true)
 
 pub returns : goal.returns
 returns c =
     offers_ran (flat_unit rows) c.args.image.now c.args.c _ _
-    (sym c.is_flat.ensures ∙ not-false _ c.if-not-is_flat.false-raw)
+    (sym c.is_flat.ensures ∙ c.if-not-is_flat.false)
     c.run_given.ensures

@@ -11,8 +11,8 @@ returns-then-image-ne-BYTES c = order-length rows c.args.image.now c.if-image-ne
 
 pub returns-then-not-in_order : goal.returns-then-not-in_order
 unfolding rows
-returns-then-not-in_order c = order_broken rows _ c.if-image-ne-BYTES.false (sym c.in_order.ensures ∙ not-true _ c.if-not-in_order.true-raw)
+returns-then-not-in_order c = order_broken rows _ c.if-image-ne-BYTES.false (sym c.in_order.ensures ∙ c.if-not-in_order.true)
 
 pub returns : goal.returns
 unfolding rows
-returns c = order_done rows _ c.if-image-ne-BYTES.false (sym c.in_order.ensures ∙ not-false _ c.if-not-in_order.false-raw)
+returns c = order_done rows _ c.if-image-ne-BYTES.false (sym c.in_order.ensures ∙ c.if-not-in_order.false)

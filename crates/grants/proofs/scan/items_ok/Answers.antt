@@ -15,13 +15,13 @@ loop-on-init c = (search rules, below_none _)
 pub returns-then-not-item_ok : goal.returns-then-not-item_ok
 returns-then-not-item_ok c =
     sym (below_stop 64 (block_ok grant_bytes c.args.grants.now 4096)
-    c.loop-on.on (search rules) (sym c.item_ok.ensures ∙ not-true _ c.if-not-item_ok.true-raw))
+    c.loop-on.on (search rules) (sym c.item_ok.ensures ∙ c.if-not-item_ok.true))
 
 pub loop-on-preserved : goal.loop-on-preserved
 loop-on-preserved c = (
   search rules,
   below_step c.loop-on.on _ c.loop-on.invariant.1
-      (sym c.item_ok.ensures ∙ not-false _ c.if-not-item_ok.false-raw),
+      (sym c.item_ok.ensures ∙ c.if-not-item_ok.false),
 )
 
 pub returns : goal.returns

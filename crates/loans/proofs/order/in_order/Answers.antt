@@ -30,42 +30,42 @@ returns-then-not-in_limits c =
     rw (
       eq-eqb (length c.args.loans.now) loan_words c.if-loans-ne-WORDS.false,
       sym (limits c.args.loans.now c.header_of-header.result c.in_limits.result c.in_limits.ensures c.header_of-header.ensures)
-          ∙ not-true _ c.if-not-in_limits.true-raw,
+          ∙ c.if-not-in_limits.true,
     )
 
 pub returns-then-not-rises : goal.returns-then-not-rises
-returns-then-not-rises c = sym (order-parts (unmasked c.args.masks.now) c.args.loans.now c.in_use-n.result c.if-loans-ne-WORDS.false (sym (limits c.args.loans.now c.header_of-header.result c.in_limits.result c.in_limits.ensures c.header_of-header.ensures) ∙ not-false _ c.if-not-in_limits.false-raw) c.in_use-n.ensures ∙ rw (sym c.rises.ensures ∙ not-true _ c.if-not-rises.true-raw))
+returns-then-not-rises c = sym (order-parts (unmasked c.args.masks.now) c.args.loans.now c.in_use-n.result c.if-loans-ne-WORDS.false (sym (limits c.args.loans.now c.header_of-header.result c.in_limits.result c.in_limits.ensures c.header_of-header.ensures) ∙ c.if-not-in_limits.false) c.in_use-n.ensures ∙ rw (sym c.rises.ensures ∙ c.if-not-rises.true))
 
 pub returns-then-not-are_shaped : goal.returns-then-not-are_shaped
 returns-then-not-are_shaped c =
-    sym (order-parts (unmasked c.args.masks.now) c.args.loans.now c.in_use-n.result c.if-loans-ne-WORDS.false (sym (limits c.args.loans.now c.header_of-header.result c.in_limits.result c.in_limits.ensures c.header_of-header.ensures) ∙ not-false _ c.if-not-in_limits.false-raw) c.in_use-n.ensures
+    sym (order-parts (unmasked c.args.masks.now) c.args.loans.now c.in_use-n.result c.if-loans-ne-WORDS.false (sym (limits c.args.loans.now c.header_of-header.result c.in_limits.result c.in_limits.ensures c.header_of-header.ensures) ∙ c.if-not-in_limits.false) c.in_use-n.ensures
     ∙ rw (
       sym c.rises.ensures
-          ∙ not-false _ c.if-not-rises.false-raw,
-      sym c.are_shaped.ensures ∙ not-true _ c.if-not-are_shaped.true-raw,
+          ∙ c.if-not-rises.false,
+      sym c.are_shaped.ensures ∙ c.if-not-are_shaped.true,
     ))
 
 pub returns-then-not-are_live : goal.returns-then-not-are_live
 returns-then-not-are_live c =
-    sym (order-parts (unmasked c.args.masks.now) c.args.loans.now c.in_use-n.result c.if-loans-ne-WORDS.false (sym (limits c.args.loans.now c.header_of-header.result c.in_limits.result c.in_limits.ensures c.header_of-header.ensures) ∙ not-false _ c.if-not-in_limits.false-raw) c.in_use-n.ensures
+    sym (order-parts (unmasked c.args.masks.now) c.args.loans.now c.in_use-n.result c.if-loans-ne-WORDS.false (sym (limits c.args.loans.now c.header_of-header.result c.in_limits.result c.in_limits.ensures c.header_of-header.ensures) ∙ c.if-not-in_limits.false) c.in_use-n.ensures
     ∙ rw (
       sym c.rises.ensures
-          ∙ not-false _ c.if-not-rises.false-raw,
+          ∙ c.if-not-rises.false,
       sym
           c.are_shaped.ensures
-          ∙ not-false _ c.if-not-are_shaped.false-raw,
-      sym c.are_live.ensures ∙ not-true _ c.if-not-are_live.true-raw,
+          ∙ c.if-not-are_shaped.false,
+      sym c.are_live.ensures ∙ c.if-not-are_live.true,
     ))
 
 pub returns : goal.returns
 returns c =
-    c.are_zero.ensures ∙ sym (order-parts (unmasked c.args.masks.now) c.args.loans.now c.in_use-n.result c.if-loans-ne-WORDS.false (sym (limits c.args.loans.now c.header_of-header.result c.in_limits.result c.in_limits.ensures c.header_of-header.ensures) ∙ not-false _ c.if-not-in_limits.false-raw) c.in_use-n.ensures
+    c.are_zero.ensures ∙ sym (order-parts (unmasked c.args.masks.now) c.args.loans.now c.in_use-n.result c.if-loans-ne-WORDS.false (sym (limits c.args.loans.now c.header_of-header.result c.in_limits.result c.in_limits.ensures c.header_of-header.ensures) ∙ c.if-not-in_limits.false) c.in_use-n.ensures
     ∙ rw (
       sym c.rises.ensures
-          ∙ not-false _ c.if-not-rises.false-raw,
+          ∙ c.if-not-rises.false,
       sym
           c.are_shaped.ensures
-          ∙ not-false _ c.if-not-are_shaped.false-raw,
+          ∙ c.if-not-are_shaped.false,
       sym c.are_live.ensures
-          ∙ not-false _ c.if-not-are_live.false-raw,
+          ∙ c.if-not-are_live.false,
     ))

@@ -18,13 +18,13 @@ pub returns-then-not-items_live : goal.returns-then-not-items_live
 returns-then-not-items_live c =
     sym (below_nested 8 8 (items_ok rows c.args.image.now 512)
     ∙ below_stop 8 (λ (i : ℕ). all_below 8 (λ (j : ℕ). items_ok rows c.args.image.now 512 (8 * i + j))) c.loop-k.k
-    (search rules) (sym c.items_live.ensures ∙ not-true _ c.if-not-items_live.true-raw))
+    (search rules) (sym c.items_live.ensures ∙ c.if-not-items_live.true))
 
 pub loop-k-preserved : goal.loop-k-preserved
 loop-k-preserved c = (
   search rules,
   below_step c.loop-k.k _ c.loop-k.invariant.1
-      (sym c.items_live.ensures ∙ not-false _ c.if-not-items_live.false-raw),
+      (sym c.items_live.ensures ∙ c.if-not-items_live.false),
 )
 
 pub returns : goal.returns

@@ -15,13 +15,13 @@ loop-who-init c = (search rules, below_none _)
 pub returns-then-not-person_ok : goal.returns-then-not-person_ok
 returns-then-not-person_ok c =
     sym (below_stop 64 (persons_ok rows c.args.image.now 512)
-    c.loop-who.who (search rules) (sym c.person_ok.ensures ∙ not-true _ c.if-not-person_ok.true-raw))
+    c.loop-who.who (search rules) (sym c.person_ok.ensures ∙ c.if-not-person_ok.true))
 
 pub loop-who-preserved : goal.loop-who-preserved
 loop-who-preserved c = (
   search rules,
   below_step c.loop-who.who _ c.loop-who.invariant.1
-      (sym c.person_ok.ensures ∙ not-false _ c.if-not-person_ok.false-raw),
+      (sym c.person_ok.ensures ∙ c.if-not-person_ok.false),
 )
 
 pub returns : goal.returns

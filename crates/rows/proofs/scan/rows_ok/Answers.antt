@@ -13,7 +13,7 @@ items_ok-requires c = (search rules, c.masks-masks.ensures)
 pub returns-then-not-items_ok : goal.returns-then-not-items_ok
 returns-then-not-items_ok c =
     sym (two_parts rows c.args.image.now 512 64
-    ∙ rw (sym c.items_ok.ensures ∙ not-true _ c.if-not-items_ok.true-raw))
+    ∙ rw (sym c.items_ok.ensures ∙ c.if-not-items_ok.true))
 
 pub persons_ok-requires : goal.persons_ok-requires
 persons_ok-requires c = (search rules, c.masks-masks.ensures)
@@ -21,4 +21,4 @@ persons_ok-requires c = (search rules, c.masks-masks.ensures)
 pub returns : goal.returns
 returns c =
     c.persons_ok.ensures ∙ sym (two_parts rows c.args.image.now 512 64
-    ∙ rw (sym c.items_ok.ensures ∙ not-false _ c.if-not-items_ok.false-raw))
+    ∙ rw (sym c.items_ok.ensures ∙ c.if-not-items_ok.false))

@@ -1,0 +1,12 @@
+-- The image has its length, so word 0 is written; a shift within its limit is not cut.
+use native.Mathlib.Omega.{arith}
+use mathlib.Core.Path.{◌≡◌, ap, ◌∙◌}
+use Prim.Native.Nat.{◌%◌}
+use Rattle.delegation.specs.Loans.{loans_at}
+use Rattle.chains.proofs.Arms.{kept_loans}
+use Rattle.chains.proofs.set_shift.Goals as goal
+
+pub returns : goal.returns
+returns c =
+    let n : c.args.to.0 % 256 ≡ c.args.to.0 = omega (arith, c.requires.1) in
+    kept_loans c.args.loans.now _ _ c.requires.0 c.set.ensures ∙ ap (λ m. loans_at m c.args.loans.now) n
