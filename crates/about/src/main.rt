@@ -2,37 +2,20 @@
 
 #![tactic(auto)]
 
+use std::io;
 use version::{Layout, Version};
 
-const OUT: i32 = 1;
-
-fn text(t: &[u8]) {
-    io::write_all(OUT, t);
-}
-
-fn number(n: u32) {
-    io::print_decimal(OUT, n as u64);
-}
-
-// A dash, then a number in at least two digits.
-fn two_digits(n: u32) {
-    text(b"-");
-    if n < 10 {
-        text(b"0");
-    }
-    number(n);
-}
-
-fn main() {
-    text(b"Engine version: ");
-    number(Version::MAJOR);
-    text(b".");
-    number(Version::MINOR);
-    text(b".");
-    number(Version::PATCH);
-    text(b"\nTable layout of: ");
-    number(Layout::YEAR);
-    two_digits(Layout::MONTH);
-    two_digits(Layout::DAY);
-    text(b"\n");
+fn main(rt: HostRuntime) -> io::Result<()> {
+    println!(rt;
+        "Engine version: {}.{}.{}",
+        Version::MAJOR,
+        Version::MINOR,
+        Version::PATCH
+    )?;
+    println!(rt;
+        "Table layout of: {}-{:02}-{:02}",
+        Layout::YEAR,
+        Layout::MONTH,
+        Layout::DAY
+    )
 }
