@@ -7,7 +7,6 @@ use Rattle.model.specs.declared.Offered.{Offered}
 use Rattle.model.specs.declared.Offered.TheVariants as offered
 use Rattle.model.specs.Commands.{is_sweep}
 use Rattle.model.specs.Answers.{Found, number_of}
-use Rattle.lines.specs.declared.Parsed.TheVariants.{Malformed}
 use Rattle.output.specs.declared.reply.Said.{Said}
 use Rattle.output.specs.declared.reply.Said.TheVariants.{Number, Yes, No, Passed}
 use Rattle.output.specs.declared.reply.Tail.{Tail}

@@ -115,7 +115,7 @@ pub record Split (k : ℕ) (t : List ℕ) : Type 0 where
 last_lines_lem : (n : ℕ) → lines_of (last_output n) ≡ line (bytes "lines=" ++ shown n) true ∷ []
 unfolding last_output lines_from
 last_lines_lem n =
-    let e : bytes "lines=" ++ (shown n ++ newline) ≡ (bytes "lines=" ++ shown n) ++ (newline ++ []) = simp (append_assoc, append-nil) in
+    let e : bytes "lines=" ++ (shown n ++ newline) ≡ (bytes "lines=" ++ shown n) ++ (newline ++ []) = simp append-nil in
     ap (lines_from []) e ∙ plain_line [] (bytes "lines=" ++ shown n) []
     (plain_append (bytes "lines=") (shown n) (unfold plain all in refl) (plain_shown n))
 

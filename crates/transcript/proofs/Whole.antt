@@ -62,7 +62,7 @@ one-grant p e h =
     let k : eqb f.0.person 3 && eqb f.0.depth 1 ≡ true = rw r at f.1 in
     let a : p ≡ f.0.person = search (fst, snd, eqb-true) in
     let b : e ≡ f.0.depth = search (fst, snd, eqb-true) in
-    let c : f.0.person ≡ 3 = search (fst, snd, eqb-true) in
+    let c : f.0.person ≡ 3 = search (fst, eqb-true) in
     let d : f.0.depth ≡ 1 = search (fst, snd, eqb-true) in
     (a ∙ c, b ∙ d)
 

@@ -1,0 +1,5 @@
+-- By recursion on n, which falls.
+use Rattle.lines.proofs.show.+put_number.Given as goal
+
+abbrev pub decreases-put_number : goal.decreases-put_number
+decreases-put_number l = l.n

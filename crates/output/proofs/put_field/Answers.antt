@@ -1,0 +1,10 @@
+use Rattle.output.proofs.Written.{wrote_then}
+use native.Mathlib.Omega.{arith}
+use Rattle.output.proofs.put_field.Goals as goal
+
+pub returns : goal.returns
+returns c = (
+  wrote_then c.put_bytes-p.ensures
+      c.put_said.ensures.0,
+  omega arith,
+)

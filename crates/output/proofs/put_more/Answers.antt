@@ -1,0 +1,23 @@
+-- After i turns the first i persons are written, a comma before each (`more_next`), in at most 4 bytes each; at the end that is all, and
+-- seven of them take at most 28.
+use lib.Seq.{take_all}
+use Rattle.output.proofs.Written.{wrote_then, wrote_none, wrote_is, more_next}
+use Rattle.output.specs.Output.{more_persons}
+use native.Mathlib.Omega.{arith}
+use mathlib.Core.Path.{refl, sym, ap, ◌∙◌}
+use Rattle.output.proofs.put_more.Goals as goal
+
+pub loop-i-init : goal.loop-i-init
+loop-i-init c = (omega arith, refl, unfold more_persons in (wrote_none _ _), omega arith)
+
+pub loop-i-preserved : goal.loop-i-preserved
+loop-i-preserved c = (
+  omega arith,
+  c.put_next-p.auto.buf ∙ c.loop-i.invariant.1,
+  wrote_is (sym (more_next c.args.via.now c.loop-i.i (omega arith))) (wrote_then c.loop-i.invariant.2 c.put_next-p.ensures.0),
+  omega arith,
+)
+
+pub returns : goal.returns
+returns c =
+    (wrote_is (ap more_persons (take_all c.loop-i.i c.args.via.now (omega arith))) c.loop-i.invariant.2, omega arith)
