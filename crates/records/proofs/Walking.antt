@@ -5,7 +5,7 @@ use mathlib.Core.List.{List, [], ◌∷◌}
 use Prim.Native.Nat.{ℕ, ◌<◌, ◌^◌}
 use lib.ListN.{length}
 use seplogic.Ra.Ura.{Ura}
-use mir.Syntax.{Ty, Body, skip, seq, assign, block, loop, cond, switch, exit, return, call, named, w32, w64, ty_int}
+use mir.Syntax.{Ty, Body, skip, seq, assign, block, loop, cond, switch, exit, return, unreachable, call, call_v, lend_static, named, w32, w64, ty_int}
 use mir.Val.{Val, vint}
 use base.Logic.{SProp, ent, sep, emp, snd∗, ex_e}
 use base.Fml.{Lft, GName, Share, Fml, flft}
@@ -70,7 +70,10 @@ after (cond x a c) = skip
 after (switch x arms) = skip
 after (exit n) = skip
 after return = skip
+after unreachable = skip
 after (call f xs d) = skip
+after (call_v f xs d n) = skip
+after (lend_static p s o) = skip
 
 -- ---- the contracts
 module _ {M : Type 1} {𝓤 : Ura M} (𝓛 : Logic 𝓤) (mem : Memory → SProp 𝓤) (run : Routine → Fun 𝓤) where

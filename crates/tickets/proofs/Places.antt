@@ -13,7 +13,7 @@ use lib.Seq.{drop-set-lt, set-get_or, set_at, take-suc-set, append_snoc}
 use lib.Dec.{eqb}
 use Rattle.bits.specs.Sets.{any, all, keep}
 use Rattle.bits.specs.Bits.{without_bit}
-use Rattle.bits.proofs.Sets.{iff, both, or_right}
+use Rattle.bits.proofs.Sets.{iff, or_right}
 use Rattle.bits.proofs.Bits.{without_le}
 use Rattle.ticketing.specs.declared.Ticket.{Ticket}
 use Rattle.ticketing.specs.Machine.{Tickets, ticket, tickets, vacant, vacancies, only, fresh_tickets, is_live, put, issue, without}
