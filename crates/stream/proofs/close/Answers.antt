@@ -1,0 +1,29 @@
+-- With too little room or too many lines nothing is written (`small`, `many`, `closes-none`). Otherwise it is the last line alone
+-- (`closes-last`), or one for the line that has begun before it: 256 bytes are room for both (`closes-begun`).
+use borrow.Author.Tests.{not-true, not-false}
+use Rattle.stream.proofs.Session.{small, many, closes-none, closes-last, closes-begun}
+use mathlib.Core.Path.{sym, ◌∙◌}
+use lib.ListN.{length}
+use Rattle.stream.proofs.close.Goals as goal
+
+pub returns-then-out-lt256 : goal.returns-then-out-lt256
+returns-then-out-lt256 c = closes-none _ _ _ (small _ c.args.p.lines c.if-out-lt256.true)
+
+pub returns-then-lines-gt-LAST : goal.returns-then-lines-gt-LAST
+returns-then-lines-gt-LAST c = closes-none _ _ _ (many (length c.args.out.now) _ c.if-lines-gt-LAST.true)
+
+pub returns-then-not-is_begun : goal.returns-then-not-is_begun
+returns-then-not-is_begun c =
+    closes-last _ _ _ c.if-out-lt256.false
+    (sym c.is_begun.ensures ∙ c.if-not-is_begun.true) _ _
+    c.put_last.ensures c.if-lines-gt-LAST.false
+
+pub returns : goal.returns
+returns c =
+    closes-begun _ _ _ c.if-out-lt256.false
+    (sym c.is_begun.ensures
+    ∙ c.if-not-is_begun.false) _ _ _ _ _
+    c.malformed-malformed.ensures
+    c.put_line-at.ensures
+    c.put_line-at.auto.buf c.put_last-2.ensures
+    c.if-lines-gt-LAST.false
