@@ -2,4 +2,3 @@ pub mod Judging
 pub mod Records
 pub mod Filling
 pub mod Finding
-pub mod Walking

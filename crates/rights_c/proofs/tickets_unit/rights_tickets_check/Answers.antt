@@ -1,5 +1,4 @@
 -- The unit's answer tells its number, which some answer has, and yes or no: the one is returned, the other written as 1 or 0.
-use borrow.Author.Rules.{rules}
 use mathlib.Core.Path.{◌≡◌, refl, ap, ◌∙◌}
 use mathlib.Core.Bool.{Bool, true, false, ◌&&◌}
 use mathlib.Core.List.{List}
@@ -15,8 +14,7 @@ use Rattle.ticketing.specs.Order.{is_in_order}
 use Rattle.ticketing.specs.Image.{ticket_words, machine_of}
 use Rattle.ticketing.specs.Unit.{Checks, check_number, check_yes}
 use Rattle.rights_c.specs.Exports.{flag}
-use Rattle.rights_c.proofs.tickets_unit.rights_tickets_check.Statement.{statement}
-use Rattle.rights_c.proofs.tickets_unit.rights_tickets_check.Tie as tie
+use Rattle.rights_c.proofs.tickets_unit.rights_tickets_check.Goals as goal
 
 told : (s : List ℕ) (p o r : ℕ) (a : Checked) (x : List ℕ) → Checks s p o r a x
     → (checked_number a ≡ check_number s p o r) × (checked_yes a ≡ check_yes s p o r) × (x ≡ s)
@@ -32,21 +30,7 @@ told s p o r a x h =
     again true b = refl
     again false b = refl
 
-check-requires : tie.Need-check-requires
-check-requires c κs = search rules
-
-checked-yes-requires : tie.Need-checked-yes-requires
-checked-yes-requires c κs = search rules
-
-checked-number-requires : tie.Need-checked-number-requires
-checked-number-requires c κs = search rules
-
-returns : tie.Need-returns
+pub returns : goal.returns
 returns c =
-    let q = c.before.before.before.before.args in
-    let r = told q.image.now q.who q.on q.right _ _ c.before.before.check.ensures in
-    (c.checked_number_lem.ensures ∙ r.0, c.before.checked_yes_lem.ensures ∙ ap flag r.1, r.2)
-
-pub rights-tickets-check-spec : {M : Type 1} → statement M
-rights-tickets-check-spec =
-    tie.close (tie.spec check-requires checked-yes-requires checked-number-requires returns)
+    let r = told c.args.image.now c.args.who c.args.on c.args.right _ _ c.check-c.ensures in
+    (c.checked_number.ensures ∙ r.0, c.checked_yes.ensures ∙ ap flag r.1, r.2)
