@@ -11,10 +11,10 @@ ghost use Rattle.stream.specs.Session.{session, fresh_session};
 ghost use Rattle.program.specs.Loop.{Answered, ReadOnce, Finishes, Ran};
 
 use grants::Grants;
-use libc::{STDIN_FILENO, STDOUT_FILENO};
 use lists::Lists;
 use loans::Loans;
 use rows::Rows;
+use std::io::{Print, Read};
 use stream::Progress;
 
 // Where a run stands after a turn: it goes on, the input ended, or a read or a write failed.
@@ -26,14 +26,15 @@ enum Turn {
 }
 
 // Writes the first n bytes; false where the write failed.
-fn write(out: &[u8], n: usize) -> bool
+fn write<O: Print>(output: &O, out: &[u8], n: usize) -> bool
     requires { n ≤ length out.now }
 {
-    io::write_all(STDOUT_FILENO, &out[..n])
+    output.write_all(&out[..n]).is_ok()
 }
 
 // Hands a chunk to the command reader, as much at a time as the output has room for, and writes the output.
-fn answer(
+fn answer<O: Print>(
+    output: &O,
     list: &mut [u64; Lists::WORDS],
     row: &mut [u8; Rows::BYTES],
     grants: &mut [u8; Grants::BYTES],
@@ -56,7 +57,7 @@ fn answer(
         if done.used == 0 {
             return Turn::Failed;
         }
-        if !write(out, written) {
+        if !write(output, out, written) {
             return Turn::Failed;
         }
         i += done.used;
@@ -66,7 +67,9 @@ fn answer(
 }
 
 // Reads once and answers what came.
-fn read_some(
+fn read_some<I: Read, O: Print>(
+    input: &mut I,
+    output: &O,
     list: &mut [u64; Lists::WORDS],
     row: &mut [u8; Rows::BYTES],
     grants: &mut [u8; Grants::BYTES],
@@ -80,29 +83,27 @@ fn read_some(
         buf.old p.held)
         (units_in list.new row.new grants.new loans.new) buf.new result }
 {
-    let mut chunk = io::large_buffer();
-    let got = libc::read(STDIN_FILENO, &mut chunk);
-    if got < 0 {
-        return Turn::Failed;
+    let mut chunk = [0u8; 65536];
+    match input.read(&mut chunk) {
+        Err(_) => Turn::Failed,
+        Ok(0) => Turn::Ended,
+        Ok(n) => answer(output, list, row, grants, loans, buf, out, p, &chunk[..n]),
     }
-    if got == 0 {
-        return Turn::Ended;
-    }
-    let n = io::count(got, &chunk);
-    answer(list, row, grants, loans, buf, out, p, &chunk[..n])
 }
 
 // The closing lines.
-fn finish(out: &mut [u8], p: Progress)
+fn finish<O: Print>(output: &O, out: &mut [u8], p: Progress)
     ensures { Finishes out.old p out.new }
 {
     let n = stream::close(out, p);
-    write(out, n);
+    write(output, out, n);
 }
 
 // Turn after turn to the end of input. A proved loop ends, and nothing says that the input does, so the turns are counted down from a
 // number that no run uses up.
-fn read_all(
+fn read_all<I: Read, O: Print>(
+    input: &mut I,
+    output: &O,
     list: &mut [u64; Lists::WORDS],
     row: &mut [u8; Rows::BYTES],
     grants: &mut [u8; Grants::BYTES],
@@ -117,11 +118,11 @@ fn read_all(
     let mut next = Progress::start();
     let mut turns = u64::MAX;
     while turns > 0 {
-        let t = read_some(list, row, grants, loans, buf, out, next);
+        let t = read_some(input, output, list, row, grants, loans, buf, out, next);
         match t {
             Turn::Going(p) => next = p,
             Turn::Ended => {
-                finish(out, next);
+                finish(output, out, next);
                 return;
             }
             Turn::Failed => return,
@@ -132,7 +133,9 @@ fn read_all(
 
 // A whole run, whatever the buffers held: three fresh units, then the input to its end. A failed read or write ends it with no further
 // line. What the calls below write for any input is `parts_same` (stream).
-pub fn run(
+pub fn run<I: Read, O: Print>(
+    input: &mut I,
+    output: &O,
     list: &mut [u64; Lists::WORDS],
     row: &mut [u8; Rows::BYTES],
     grants: &mut [u8; Grants::BYTES],
@@ -144,5 +147,5 @@ pub fn run(
         (units_in list.new row.new grants.new loans.new) buf.new }
 {
     reader::fresh(list, row, grants, loans);
-    read_all(list, row, grants, loans, buf, out);
+    read_all(input, output, list, row, grants, loans, buf, out);
 }

@@ -8,7 +8,8 @@ use lists::Lists;
 use loans::Loans;
 use rows::Rows;
 
-fn main() {
+fn main(rt: HostRuntime) {
+    let mut input = rt.stdin();
     let mut list = [0u64; Lists::WORDS];
     let mut row = [0u8; Rows::BYTES];
     let mut grants = [0u8; Grants::BYTES];
@@ -16,6 +17,8 @@ fn main() {
     let mut buf = [0u8; 128];
     let mut out = [0u8; 65536];
     program::run(
+        &mut input,
+        &rt,
         &mut list,
         &mut row,
         &mut grants,
