@@ -2,7 +2,7 @@
 -- of the grants and may end loans; what several leave does not show their order, and eight of them are withdraw (Dropped). What is left is
 -- in order, with the same live set, and so the next drop is asked what withdraw was asked before the first (`still`).
 use mathlib.Core.Path.{◌≡◌, refl, sym, ap, ◌∙◌, subst}
-use mathlib.Core.Bool.{Bool, true, false, not, ◌&&◌, cond}
+use mathlib.Core.Bool.{true, false, not, ◌&&◌, cond}
 use mathlib.Core.List.{List, [], ◌∷◌, map}
 use Prim.Native.Nat.{ℕ, ◌≤◌}
 use borrow.Author.Tests.{eqb-true, ne_eqb, leb-true}

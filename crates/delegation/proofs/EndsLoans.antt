@@ -7,23 +7,23 @@ use mathlib.Core.Bool.{Bool, true, false, not, ◌&&◌, ◌||◌, cond, false�
 use mathlib.Core.List.{List, [], ◌∷◌}
 use Prim.Native.Nat.{ℕ, ◌≤◌, ◌<◌}
 use native.Mathlib.Nat.{le_refl}
-use borrow.Author.Tests.{eqb-true, leb-true}
+use borrow.Author.Tests.{eqb-true}
 use lib.ListN.{length, get_or}
 use lib.Dec.{eqb, leb}
-use Rattle.bits.specs.Sets.{any, keep}
+use Rattle.bits.specs.Sets.{any}
 use Rattle.model.specs.declared.Command.{Command}
 use Rattle.model.specs.declared.Command.TheVariants.{Create, Delete, Allow, Withdraw, Lend, Recall, Shift, AllowSet, Drop, Sweep}
 use Rattle.model.specs.Commands.{depths, items, right_depth, arguments_of}
 use Rattle.model.specs.Answers.{asked}
-use Rattle.model.specs.Journal.{Grant, Loan, grant, is_from, carries, loan_in, of_each_depth, lends_from}
+use Rattle.model.specs.Journal.{Grant, grant, carries, loan_in, of_each_depth, lends_from}
 use Rattle.model.specs.AllowSet.{finally}
 use Rattle.model.specs.Ending.{holding, StaysClean, EndsLoans, GainsNobody}
-use Rattle.model.specs.Invariant.{ranged, ranged_loan}
+use Rattle.model.specs.Invariant.{ranged}
 use Rattle.layouts.specs.Machine.{answer_of, step_of}
-use Rattle.layouts.specs.Layouts.{grant_bytes, live_in, grant_bit, held, is_in_order, dropped, dropped_all, withdrawn}
-use Rattle.delegation.specs.Loans.{lender, borrower, loan_depth, last_shift, word_of, word_from, word_names, loan_words, shift_in, used, loans_kept, loans_in_order}
-use Rattle.delegation.specs.Images.{Images, images, standing_in, WordCarries, ImageChain}
-use Rattle.delegation.specs.ChainUnit.{chain_unit, chain_stands, chain_lent, chain_guard, chain_sized, chain_in_order, chain_facts, chain_dropped, chain_withdrawn, chain_after, chain_count, chain_check_number, chain_found, NobodyGains}
+use Rattle.layouts.specs.Layouts.{grant_bytes, live_in, grant_bit, held, dropped, dropped_all, withdrawn}
+use Rattle.delegation.specs.Loans.{lender, borrower, loan_depth, last_shift, word_of, word_from, loan_words, used, loans_kept}
+use Rattle.delegation.specs.Images.{Images, images, standing_in, ImageChain}
+use Rattle.delegation.specs.ChainUnit.{chain_unit, chain_stands, chain_lent, chain_guard, chain_sized, chain_in_order, chain_facts, chain_dropped, chain_after, chain_count, chain_check_number, chain_found, NobodyGains}
 use Rattle.bits.proofs.Sets.{by_cases, fst, snd, both, all_true, any_cong, any_kept, any_fewer, any_less, any_gone, any_same}
 use Rattle.model.proofs.Commands.{small}
 use Rattle.model.proofs.Answers.{result_either}

@@ -112,6 +112,10 @@ module _ (L : Layout) (H : Whole L) where
     pub dropped_fit : (g : Grant) → Fit (dropped L s g)
     dropped_fit g = build_fit (live_in L s) _ root (λ k b t. old k b (fst (grant_bit L s k) _ t))
 
+    -- fewer grants and the same live set: in order still
+    pub order_dropped : (g : Grant) → is_in_order L (dropped L s g) ≡ true
+    order_dropped g = (dropped_fit g).1
+
     pub withdrawn_fit : (p i r : ℕ) → Fit (withdrawn L s p i r)
     withdrawn_fit p i r =
         rw (withdrawn-eight L W s p i r) (build_fit (live_in L s) _ root (λ k b t. old k b (fst (grant_bit L s k) _ t)))

@@ -12,7 +12,6 @@ use Rattle.bits.specs.Sets.{any, all}
 use Rattle.model.specs.Commands.{depths, items, right_depth, arguments_of, fits, members_of}
 use Rattle.layouts.specs.Machine.{answer_of}
 use Rattle.model.specs.Journal.{Grant, Journal, grant, same_grant, is_to, names, lives, facts, answered, fresh, apply, has_grant}
-use Rattle.bits.specs.Cells.{at}
 use Rattle.layouts.specs.Layouts.{Layout, lists, rows, grant_bytes, live_in, grant_bit, build, held, is_in_order, facts_of, guarded, created, deleted, allowed, allowed_set, flat_unit, fresh_image, check_yes}
 use Rattle.bits.proofs.Sets.{iff, fst, snd, both, or_left, or_right, by_cases, find, any_cong, any_same, any_kept, any-add, any_swap, any-map}
 use Rattle.bits.proofs.Indexed.{below_intro, below_elim, below_ext}

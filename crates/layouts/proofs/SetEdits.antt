@@ -18,8 +18,7 @@ use Rattle.bits.specs.Cells.{at}
 use Rattle.bits.specs.Zeros.{with_bits, chosen}
 use Rattle.model.specs.Commands.{members_of}
 use Rattle.model.specs.Journal.{grant}
-use Rattle.model.specs.AllowSet.{none, one}
-use Rattle.layouts.specs.Layouts.{Layout, lists, rows, live_in, grant_bit, allowed_set}
+use Rattle.layouts.specs.Layouts.{Layout, live_in, grant_bit, allowed_set}
 use Rattle.layouts.specs.Laws.{Laws}
 use Rattle.bits.proofs.Sets.{iff, by_cases, fst, snd, both, eqb_self}
 use Rattle.bits.proofs.Indexed.{some_intro, some_elim, some_ext}

@@ -1,6 +1,6 @@
 -- What is asked of a layout, and the image of a journal in it. The three layouts are shown to keep their laws: `lists-laws`, `rows-laws`,
 -- `bytes_laws`, `lists-flat`, `rows-flat`, `bytes_whole`.
-use Rattle.std.specs.Prelude.{◌≡◌, Bool, true, List, ℕ, ◌+◌, ◌-◌, ◌*◌, ◌<◌, eqb}
+use Rattle.std.specs.Prelude.{◌≡◌, Bool, true, List, ℕ, ◌+◌, ◌*◌, ◌<◌, eqb}
 use Rattle.bits.specs.Sets.{any}
 use Rattle.model.specs.Journal.{Grant, Journal, grant, lives}
 use Rattle.layouts.specs.Layouts.{Layout, build}

@@ -13,7 +13,7 @@ use Rattle.bits.specs.Sets.{any, all, keep}
 use Rattle.model.specs.declared.Command.{Command}
 use Rattle.model.specs.declared.Command.TheVariants.{Withdraw, Drop}
 use Rattle.model.specs.declared.Facts.{Facts}
-use Rattle.model.specs.Commands.{depths, items, right_depth, arguments_of, fits}
+use Rattle.model.specs.Commands.{depths, items, right_depth, arguments_of}
 use Rattle.model.specs.Answers.{answer}
 use Rattle.model.specs.Journal.{Grant, Loan, Journal, grant, same_grant, is_to, is_from, lives, standing, facts, answered, less_grant, last_ends, dropped, dropped_all, of_each_depth, apply, step}
 use Rattle.model.specs.AllowSet.{Accepts, one, finally}

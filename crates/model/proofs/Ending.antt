@@ -8,7 +8,7 @@ use mathlib.Core.List.{List, [], ◌∷◌}
 use Prim.Native.Nat.{ℕ}
 use borrow.Author.Tests.{eqb-true}
 use lib.Dec.{eqb}
-use Rattle.bits.specs.Sets.{any, all, keep}
+use Rattle.bits.specs.Sets.{all, keep}
 use Rattle.model.specs.Journal.{Grant}
 use Rattle.bits.proofs.Sets.{by_cases, fst, snd, all_true, keep_cong, keep_all, keep-keep}
 

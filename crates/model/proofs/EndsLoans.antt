@@ -17,7 +17,7 @@ use Rattle.model.specs.Journal as journal
 use Rattle.model.specs.Chain.{granted, lent, JournalChain}
 use Rattle.model.specs.AllowSet.{finally}
 use Rattle.model.specs.Ending.{holding, StaysClean, EndsLoans, GainsNobody, OpensToOne}
-use Rattle.model.specs.Invariant.{ranged, ranged_loan, sound, Inv}
+use Rattle.model.specs.Invariant.{ranged_loan, sound, Inv}
 use Rattle.bits.proofs.Sets.{iff, by_cases, fst, snd, both, either, neither, find, found, all_true, keep_cong, any_kept, any_fewer, any_less, any_gone, any_same, any-add, eqb_self}
 use Rattle.model.proofs.Commands.{depth_in, small}
 use Rattle.model.proofs.Chain.{chain-map}

@@ -9,7 +9,7 @@ use lib.Dec.{eqb, leb}
 use Rattle.model.specs.declared.Command.{Command}
 use Rattle.model.specs.declared.Command.TheVariants.{Create, Delete, Allow, Withdraw, Lend, Recall, Shift, AllowSet, Drop, Sweep}
 use Rattle.bits.specs.Sets.{any, all, keep, add}
-use Rattle.model.specs.Commands.{items, right_depth, arguments_of, is_sweep, fits, members_of}
+use Rattle.model.specs.Commands.{items, right_depth, arguments_of, is_sweep, members_of}
 use Rattle.model.specs.Answers.{flat}
 use Rattle.model.specs.Journal.{Grant, Loan, Journal, grant, granted_all, less_grant, dropped_all, of_each_depth, loan, same_grant, same_loan, names, loan_names, is_past, lives, facts, answered, fresh, apply, step, run, is_drop}
 use Rattle.bits.proofs.Sets.{fst, snd, both, or_left, or_right, all_mono, all_keep, all-add}

@@ -1,5 +1,5 @@
 -- What every journal keeps, from the fresh one on and over every command; the theorems are `Kept-fresh` and `Kept-step`.
-use Rattle.std.specs.Prelude.{◌≡◌, Bool, true, not, ◌&&◌, ℕ, ◌≤◌, ◌-◌, eqb, List, [], ◌∷◌, length}
+use Rattle.std.specs.Prelude.{◌≡◌, Bool, true, not, ◌&&◌, ℕ, ◌≤◌, eqb, List, [], ◌∷◌, length}
 use Rattle.bits.specs.Sets.{any, all}
 use Rattle.model.specs.Commands.{items, right_depth, shifts, most_loans}
 use Rattle.model.specs.Journal.{Grant, Loan, Journal, same_loan, lives}

@@ -1,7 +1,6 @@
 -- An image is in order where its first bit, item 0's, is set and each of its 64 blocks names living items only (`order_is`): the two
 -- tests, one after the other.
 use mathlib.Core.Path.{sym, ◌∙◌}
-use borrow.Author.Tests.{not-true, not-false}
 use Rattle.grants.proofs.Blocks.{order_is}
 use Rattle.grants.proofs.in_order.Goals as goal
 

@@ -3,7 +3,6 @@
 use borrow.Author.Rules.{rules}
 use native.Mathlib.Omega.{arith}
 use mathlib.Core.Path.{◌≡◌, sym, ◌∙◌}
-use borrow.Author.Tests.{not-true, not-false}
 use Rattle.layouts.specs.Layouts.{grant_bytes}
 use Rattle.bits.proofs.Indexed.{below_none, below_step, below_stop}
 use Rattle.layouts.specs.Order.{block_ok}

@@ -1,6 +1,5 @@
 -- Two tests, the items and the right, whose conjunction decides in the definition: either that fails gives Beyond, and a question
 -- is read where both pass.
-use borrow.Author.Tests.{not-true, not-false}
 use mathlib.Core.Path.{sym, ◌∙◌}
 use Rattle.model.proofs.Question.read.Goals as goal
 
