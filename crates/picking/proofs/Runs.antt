@@ -1,8 +1,8 @@
 -- The pick of loans in two runs. Of rising loans the open-ended come first, then those that are past, then the others that carry
 -- (`carries_open`, `carries-not`, `carries-later`): so the loans of the key in the first and in the last part are those picked.
 use mathlib.Core.Path.{◌≡◌, sym, ap, ◌∙◌}
-use mathlib.Core.Bool.{Bool, true, false, ◌&&◌, and-true, and-false}
-use mathlib.Core.List.{List, [], ◌++◌, append_assoc}
+use mathlib.Core.Bool.{true, false, ◌&&◌, and-true, and-false}
+use mathlib.Core.List.{List, ◌++◌, append_assoc}
 use Prim.Native.Nat.{ℕ, ◌+◌, ◌-◌, ◌*◌, ◌%◌, ◌≤◌, ◌<◌, max}
 use native.Mathlib.Omega.{arith}
 use lib.ListN.{length, get_or, take, drop, length-drop, take-append-drop}

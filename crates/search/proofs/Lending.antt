@@ -2,20 +2,20 @@
 -- the deepest of its loans (`passed-next`), so a person's next entry is known without the rest of the round.
 use mathlib.Core.Path.{◌≡◌, refl, sym, ap, ◌∙◌}
 use mathlib.Core.Bool.{Bool, true, false, not, ◌&&◌, cond, and-false, false≢true}
-use mathlib.Core.List.{List, []}
+use mathlib.Core.List.{List}
 use mathlib.Core.Logic.{by_cases}
-use Prim.Native.Nat.{ℕ, zero, suc, ◌+◌, ◌-◌, ◌≤◌, ◌<◌, min, max}
+use Prim.Native.Nat.{ℕ, ◌+◌, ◌-◌, ◌≤◌, ◌<◌, min, max}
 use native.Mathlib.Omega.{arith}
 use native.Mathlib.Decide.{dec_lt, ℕ_discrete}
 use borrow.Author.Tests.{eqb-true, eq-eqb, ne_eqb}
 use lib.Dec.{eqb}
 use lib.ListN.{length, get_or, set, take, drop, length-drop}
 use lib.Seq.{get_or-set_same, get_or-set_other, get_or-take, get_or-drop, length-take-le}
-use Rattle.bits.specs.Sets.{tabulate, all_below, most, first_at}
+use Rattle.bits.specs.Sets.{all_below, most, first_at}
 use Rattle.delegation.specs.Loans.{lender, borrower, loan_depth}
-use Rattle.delegation.specs.Search.{gain, arrive, arriving, next_round, round_at, lender_to}
+use Rattle.delegation.specs.Search.{arrive, arriving, next_round, round_at, lender_to}
 use Rattle.delegation.proofs.Search.{arrive_here, arrive_else}
-use Rattle.bits.proofs.Sets.{fst, snd, both}
+use Rattle.bits.proofs.Sets.{fst, snd}
 use Rattle.bits.proofs.Indexed.{get_d_tabulate, most_above, first-most, below_elim}
 use Rattle.search.specs.Lending.{lending, lent_to, passed_on, is_to_other, ToOthers}
 use Rattle.search.proofs.Rounds.{most_more, most_le, round_more}

@@ -1,6 +1,6 @@
 -- Where there was no grant, or there still is one, no last grant ended and all loans stay (`all_stay`); they stay too where the person made
 -- none there (`none_theirs`); else the pass ends those (`theirs_end`).
-use borrow.Author.Tests.{not-true, not-false}
+use borrow.Author.Tests.{not-false}
 use mathlib.Core.Path.{sym, ap, ap₂, ◌∙◌}
 use mathlib.Core.Bool.{Bool, not, ◌&&◌}
 use Rattle.layouts.specs.Layouts.{grant_bytes, held}

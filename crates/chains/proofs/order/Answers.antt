@@ -2,7 +2,6 @@
 -- the grants' live set, so the loans are judged by the items that live there (`order-lent`, `order_done`).
 use mathlib.Core.Path.{sym, ◌∙◌}
 use Rattle.chains.proofs.Judging.{order-grants, order-loans, order-room, order_named, order-lent, order_done}
-use borrow.Author.Tests.{not-true, not-false}
 use Rattle.chains.proofs.order.Goals as goal
 
 pub returns-then-grants-ne-BYTES : goal.returns-then-grants-ne-BYTES

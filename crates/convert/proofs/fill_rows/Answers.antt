@@ -4,7 +4,6 @@ use mathlib.Core.Path.{◌≡◌, sym, ap, ◌∙◌}
 use native.Mathlib.Omega.{arith}
 use borrow.Author.Rules.{rules}
 use lib.ListN.{length}
-use Rattle.bits.specs.Cells.{at}
 use Rattle.convert.proofs.Pending.{lacking-length}
 use Rattle.convert.proofs.Turned.{rows_end}
 use Rattle.convert.proofs.fill_rows.Goals as goal

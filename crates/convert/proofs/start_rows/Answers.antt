@@ -4,7 +4,6 @@ use mathlib.Core.Path.{◌≡◌, sym, ap, ◌∙◌}
 use native.Mathlib.Omega.{arith}
 use borrow.Author.Rules.{rules}
 use lib.ListN.{length, get_or, length-set}
-use Rattle.bits.specs.Cells.{at}
 use Rattle.bits.proofs.Sweep.{swept_none, swept_more}
 use Rattle.bits.proofs.Zeros.{zeroed-all, length-zeroed}
 use Rattle.convert.proofs.Turned.{rows_begin}

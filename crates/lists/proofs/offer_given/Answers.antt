@@ -1,6 +1,5 @@
 -- A command that lists lack is passed over and changes nothing (`offers_passed`); any other is run (`offers_ran`).
 use mathlib.Core.Path.{sym, ◌∙◌}
-use borrow.Author.Tests.{not-true, not-false}
 use Rattle.layouts.specs.Layouts.{lists, flat_unit}
 use Rattle.layouts.proofs.Ends.{offers_ran, offers_passed}
 use Rattle.lists.proofs.offer_given.Goals as goal

@@ -1,6 +1,5 @@
 -- A command that rows lack is passed over and changes nothing (`offers_passed`); any other is run (`offers_ran`).
 use mathlib.Core.Path.{sym, ◌∙◌}
-use borrow.Author.Tests.{not-true, not-false}
 use Rattle.layouts.specs.Layouts.{rows, flat_unit}
 use Rattle.layouts.proofs.Ends.{offers_ran, offers_passed}
 use Rattle.rows.proofs.offer_given.Goals as goal

@@ -1,6 +1,5 @@
 -- The two tests in the order of their numbers: length (`order-length`), then order (`order_broken`), else 0 (`order_done`).
 use mathlib.Core.Path.{sym, ◌∙◌}
-use borrow.Author.Tests.{not-true, not-false}
 use Rattle.layouts.specs.Layouts.{rows}
 use Rattle.layouts.proofs.Ends.{order-length, order_broken, order_done}
 use Rattle.rows.proofs.order.Goals as goal

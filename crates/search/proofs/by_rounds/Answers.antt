@@ -1,9 +1,8 @@
 -- The rounds serve for this person as all eight do (`Searched`). The greatest entry then says what was found (`found_is`), and the chain is
 -- empty where it is 0 (`chain-no`), else the one traced (`chain-yes`).
 use mathlib.Core.Path.{ap, ◌∙◌}
-use lib.ListN.{length}
 use Rattle.model.specs.Answers.{found_said}
-use Rattle.search.proofs.Outcome.{Searched, searched, found_is, chain-no, chain-yes}
+use Rattle.search.proofs.Outcome.{searched, found_is, chain-no, chain-yes}
 use Rattle.search.proofs.by_rounds.Goals as goal
 use Rattle.search.proofs.by_rounds.Goals.{then-e-eq0, else-e-eq0}
 

@@ -2,7 +2,6 @@
 use borrow.Author.Rules.{rules}
 use native.Mathlib.Omega.{arith}
 use mathlib.Core.Path.{◌∙◌}
-use Rattle.delegation.specs.Loans.{lender}
 use Rattle.search.proofs.Rounds.{above_more}
 use Rattle.search.proofs.entries_of.Goals as goal
 

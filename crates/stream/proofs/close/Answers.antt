@@ -1,6 +1,5 @@
 -- With too little room or too many lines nothing is written (`small`, `many`, `closes-none`). Otherwise it is the last line alone
 -- (`closes-last`), or one for the line that has begun before it: 256 bytes are room for both (`closes-begun`).
-use borrow.Author.Tests.{not-true, not-false}
 use Rattle.stream.proofs.Session.{small, many, closes-none, closes-last, closes-begun}
 use mathlib.Core.Path.{sym, ◌∙◌}
 use lib.ListN.{length}

@@ -1,6 +1,5 @@
 -- Takes the chunk piece after piece: after each, the pieces done and what the definition takes of the rest make up what it takes
 -- (`Going`), so that the loop stops where the definition does.
-use borrow.Author.Tests.{not-true, not-false}
 use Rattle.stream.proofs.Session.{going_start, going_next, going_full, going_last, going_end, kept_start}
 use native.Mathlib.Omega.{arith}
 use mathlib.Core.Path.{sym, ◌∙◌}

@@ -1,18 +1,16 @@
 -- With the right length, and shift and count within their limits (`limits`), order is four tests of the words: those in use rise, have a
 -- loan's shape and name living items, and the later ones are 0 (`order-parts`). Each test that fails ends it with no, and the last decides.
 use mathlib.Core.Path.{◌≡◌, sym, ap, ◌∙◌}
-use Prim.Native.Nat.{◌+◌, ◌-◌}
-use lib.ListN.{length, take, drop}
+use lib.ListN.{length}
 use mathlib.Core.Bool.{Bool, ◌&&◌}
 use mathlib.Core.List.{List}
 use Prim.Native.Nat.{ℕ}
-use lib.Dec.{eqb, leb}
-use borrow.Author.Tests.{eq-eqb, ne_eqb, not-true, not-false}
-use Rattle.bits.specs.Sets.{all}
+use lib.Dec.{leb}
+use borrow.Author.Tests.{eq-eqb, ne_eqb}
 use Rattle.model.specs.Commands.{shifts, most_loans}
-use Rattle.delegation.specs.Loans.{loan_words, header_in, count_of, shift_in, rising, loans_in_order}
+use Rattle.delegation.specs.Loans.{loan_words, header_in, count_of, shift_in, loans_in_order}
 use Rattle.delegation.specs.declared.loan.Header.{Header}
-use Rattle.loans.specs.Words.{unmasked, shaped, names_live}
+use Rattle.loans.specs.Words.{unmasked}
 use Rattle.loans.proofs.Parts.{order-parts}
 use Rattle.loans.proofs.order.in_order.Goals as goal
 

@@ -11,7 +11,7 @@ pub loop-k-preserved : goal.loop-k-preserved
 loop-k-preserved c =
     let q = ap (λ (r : Inquiry). r.count) c.loop-k.invariant.asked in
     let within : c.loop-k.k < length c.args.tickets.now =
-        lt_of_lt_of_le (subst (λ (n : ℕ). c.loop-k.k < n) q c.loop-k-test.true) (places_fit c.args.tickets.now c.args.who c.args.on c.args.right) in record {
+    lt_of_lt_of_le (subst (λ (n : ℕ). c.loop-k.k < n) q c.loop-k-test.true) (places_fit c.args.tickets.now c.args.who c.args.on c.args.right) in record {
       asked = c.loop-k.invariant.asked;
       within = omega arith;
       found = find_goes c.args.tickets.now c.args.who c.args.on c.args.right c.loop-k.k c.loop-k.found c.look-found.result within

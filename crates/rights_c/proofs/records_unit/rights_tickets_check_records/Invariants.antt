@@ -9,7 +9,7 @@ abbrev pub invariant-loop-k : goal.invariant-loop-k
 invariant-loop-k l = record {
   asked : l.q ≡ inquiry_of (length l.tickets) l.who l.on l.right;
   within : l.k ≤ l.q.count;
-  found : Facts l.tickets l.who l.on l.right l.k l.found
+  found : Facts l.tickets l.who l.on l.right l.k l.found;
 }
 
 abbrev pub decreases-loop-k : goal.decreases-loop-k

@@ -8,7 +8,7 @@ abbrev pub invariant-loop-k : goal.invariant-loop-k
 invariant-loop-k l = record {
   judged : l.r ≡ reading_of l.image (length l.initial.tickets);
   within : l.k ≤ l.r.count;
-  filled : Facts l.image l.initial.tickets l.k l.tickets
+  filled : Facts l.image l.initial.tickets l.k l.tickets;
 }
 
 abbrev pub decreases-loop-k : goal.decreases-loop-k

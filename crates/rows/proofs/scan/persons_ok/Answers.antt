@@ -2,7 +2,6 @@
 -- (`below_stop`). At the end that is all 64.
 use mathlib.Core.Path.{◌≡◌, sym, ◌∙◌}
 use native.Mathlib.Omega.{arith}
-use borrow.Author.Tests.{not-true, not-false}
 use borrow.Author.Rules.{rules}
 use Rattle.layouts.specs.Layouts.{rows}
 use Rattle.bits.proofs.Indexed.{below_none, below_step, below_stop}

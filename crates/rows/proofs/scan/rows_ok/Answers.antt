@@ -2,7 +2,6 @@
 -- second decides. Both are given the masks of this image.
 use borrow.Author.Rules.{rules}
 use mathlib.Core.Path.{sym, ◌∙◌}
-use borrow.Author.Tests.{not-true, not-false}
 use Rattle.layouts.specs.Layouts.{rows}
 use Rattle.layouts.proofs.Order.{two_parts}
 use Rattle.rows.proofs.scan.rows_ok.Goals as goal

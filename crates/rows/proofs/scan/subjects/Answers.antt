@@ -3,7 +3,6 @@ use mathlib.Core.Path.{◌≡◌, refl}
 use Prim.Native.Nat.{◌%◌}
 use native.Mathlib.Omega.{arith}
 use borrow.Author.Rules.{rules}
-use lib.ListN.{set}
 use Rattle.bits.specs.Bits.{of_bits}
 use Rattle.layouts.specs.Subjects.{subjects_of, is_subject}
 use Rattle.layouts.specs.Layouts.{rows}

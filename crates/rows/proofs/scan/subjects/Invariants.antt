@@ -1,7 +1,6 @@
 -- After n turns the word has, of the first n persons, the bits of those who hold a right (`bits_step`); at the end n is 64.
 use mathlib.Core.Path.{◌≡◌}
 use Prim.Native.Nat.{◌-◌, ◌≤◌}
-use lib.ListN.{set}
 use Rattle.bits.specs.Bits.{of_bits}
 use Rattle.layouts.specs.Subjects.{is_subject}
 use Rattle.layouts.specs.Layouts.{rows}
