@@ -1,4 +1,3 @@
-pub mod Judging
 pub mod Records
 pub mod Filling
 pub mod Finding

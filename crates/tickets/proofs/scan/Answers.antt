@@ -20,10 +20,6 @@ pub loop-k-init : goal.loop-k-init
 loop-k-init c =
     (search rules, search rules, search rules, refl, refl, ap (all _) (from_zero c.args.image.now), ap live_numbers (from_zero c.args.image.now))
 
-pub visit-found-requires : goal.visit-found-requires
-visit-found-requires c =
-    (c.loop-k.invariant.2, omega (arith, c.loop-k.invariant.1), omega (arith, c.shared_slice_known-1.given 0))
-
 pub loop-k-preserved : goal.loop-k-preserved
 loop-k-preserved c =
     let q = record_ok (get_or c.args.image.now 0 0) (get_or c.args.image.now 1 0) in

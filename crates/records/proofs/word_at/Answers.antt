@@ -1,7 +1,0 @@
--- Past the end of a list `get_or` is its default.
-use mathlib.Core.Path.{sym}
-use lib.ListN.{get_or-eq_default}
-use Rattle.records.proofs.word_at.Goals as goal
-
-pub returns-then-image-i : goal.returns-then-image-i
-returns-then-image-i c = sym (get_or-eq_default c.args.image.now 0 c.if-image-i.true)
