@@ -8,14 +8,14 @@ use Rattle.search.proofs.by_rounds.Goals.{then-e-eq0, else-e-eq0}
 
 pub said-requires : goal.said-requires
 said-requires c =
-    let s = searched c.args.grants.now c.args.loans.now c.args.who.0 c.grant_round-first.result c.rounds_of-rounds.result c.best_of-e.result.value
-    c.best_of-e.result.at c.requires.1 c.grant_round-first.ensures c.rounds_of-rounds.ensures c.best_of-e.ensures.0 c.best_of-e.ensures.1 in
+    let s = searched c.args.grants.now c.args.loans.now c.args.who.0 c.grant_round-first.result c.rounds_of.new.rounds c.best_of-e.result.value
+    c.best_of-e.result.at c.requires.1 c.grant_round-first.ensures c.rounds_of.ensures c.best_of-e.ensures.0 c.best_of-e.ensures.1 in
     (s.height_in, c.best_of-e.ensures.2)
 
 pub returns : goal.returns
 returns c =
-    let s = searched c.args.grants.now c.args.loans.now c.args.who.0 c.grant_round-first.result c.rounds_of-rounds.result c.best_of-e.result.value
-    c.best_of-e.result.at c.requires.1 c.grant_round-first.ensures c.rounds_of-rounds.ensures c.best_of-e.ensures.0 c.best_of-e.ensures.1 in (
+    let s = searched c.args.grants.now c.args.loans.now c.args.who.0 c.grant_round-first.result c.rounds_of.new.rounds c.best_of-e.result.value
+    c.best_of-e.result.at c.requires.1 c.grant_round-first.ensures c.rounds_of.ensures c.best_of-e.ensures.0 c.best_of-e.ensures.1 in (
       c.said.ensures ∙ ap found_said (found_is s),
       elim c.if-e-eq0.branch [
         | then-e-eq0 w ↦ w.chain-is ∙ w.clear.ensures ∙ chain-no s w.if-e-eq0.true
