@@ -142,20 +142,20 @@ no-yes e y = false≢true (ap (λ (f : Found). f.yes) (sym e) ∙ y)
 
 -- a check of the journal's images, beyond the limits and within them
 module _ (j : Journal) (v : Kept j) (buffer : List ℕ) (l : length buffer ≡ 8) (p o r : ℕ) where
-  number_of : chain_check_number (images_of j) buffer p o r ≡ asked p o r
-  number_of = rw (eq-eqb (length buffer) 8 l) (guard_chain j v (asked p o r))
+  number_is : chain_check_number (images_of j) buffer p o r ≡ asked p o r
+  number_is = rw (eq-eqb (length buffer) 8 l) (guard_chain j v (asked p o r))
 
   meets_of : asked p o r ≡ 0 → Meets (λ ps a. JournalChain j o r ps p a) (chain_found (images_of j) buffer p o r)
       (chain_buffer (images_of j) buffer p o r)
   meets_of e =
-      meets-map (check_meets (images_of j) (bytes_of j) buffer p o r (number_of ∙ e)) (λ ps a. to_journal j v o r ps p a)
+      meets-map (check_meets (images_of j) (bytes_of j) buffer p o r (number_is ∙ e)) (λ ps a. to_journal j v o r ps p a)
       (λ ps a. to-images j v o r ps p a)
 
   beyond_of : (asked p o r ≡ 0 → ⊥)
       → (chain_found (images_of j) buffer p o r ≡ nothing) × (chain_buffer (images_of j) buffer p o r ≡ buffer)
       × ((ps : List ℕ) (a : ℕ) → JournalChain j o r ps p a → ⊥)
   beyond_of ne =
-      let f : eqb (chain_check_number (images_of j) buffer p o r) 0 ≡ false = ne_eqb _ 0 (λ z. ne (sym number_of ∙ z)) in
+      let f : eqb (chain_check_number (images_of j) buffer p o r) 0 ≡ false = ne_eqb _ 0 (λ z. ne (sym number_is ∙ z)) in
       (rw f, rw f, λ ps a c. ne (rw (chain-asked j v o r c)))
 
   rules_of : (d : ℕ) → JournalAccess j p o r d ↔ ((chain_found (images_of j) buffer p o r).yes ≡ true)
@@ -178,7 +178,7 @@ module _ (j : Journal) (v : Kept j) (buffer : List ℕ) (l : length buffer ≡ 8
 
 chain_agrees : (j : Journal) → Kept j → ChainAgrees j (images_of j)
 chain_agrees j v = record {
-  number = number_of j v;
+  number = number_is j v;
   meets = meets_of j v;
   beyond = beyond_of j v;
   rules = rules_of j v;

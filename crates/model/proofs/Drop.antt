@@ -247,8 +247,8 @@ pub journal_commute : (j : Journal) → DropsCommute answered step standing (λ 
 journal_commute j ds es s a b = journal_leaves ds j a ∙ order-free (grants_in ds) (grants_in es) s j ∙ sym (journal_leaves es j b)
 
 module _ (j : Journal) (by to on right : ℕ) where
-  number_of : (i : Journal) (depth : ℕ) → depth ≤ 7 → answered i (Drop by to on right depth) ≡ answered i (Withdraw by to on right)
-  number_of i depth h =
+  same_number : (i : Journal) (depth : ℕ) → depth ≤ 7 → answered i (Drop by to on right depth) ≡ answered i (Withdraw by to on right)
+  same_number i depth h =
       drop-answer (facts i (arguments_of (Drop by to on right depth))) (facts i (arguments_of (Withdraw by to on right))) refl refl refl
       refl refl by to on right depth h
 
@@ -276,7 +276,7 @@ module _ (j : Journal) (by to on right : ℕ) where
 
   pub journal_drop : (depth : ℕ) → Drops answered step standing (λ i n. n) j by to on right depth
   journal_drop depth = record {
-    number = number_of j depth;
+    number = same_number j depth;
     beyond = λ n. drop-beyond (facts j (arguments_of (Drop by to on right depth))) by to on right depth n;
     nothing = λ n. rw (ne_eqb _ 0 n);
     ends = ends_of;
@@ -287,7 +287,7 @@ module _ (j : Journal) (by to on right : ℕ) where
         (keep_cong _ _ (standing j) j.grants (all_in same_grant grant_self j.grants)
         (λ x s. ap not (only-depth depth (within_of_lem e).1 only x s)))
         ∙ sym (dropped_is (of_each_depth to on right) j)
-        ∙ sym (stepped j (Withdraw by to on right) (sym (number_of j depth (leb-true depth 7 (within_of_lem e).1)) ∙ e));
+        ∙ sym (stepped j (Withdraw by to on right) (sym (same_number j depth (leb-true depth 7 (within_of_lem e).1)) ∙ e));
   }
     where
       -- the limits of an accepted drop
@@ -306,7 +306,7 @@ module _ (j : Journal) (by to on right : ℕ) where
       → Singles answered step (λ d. Drop by to on right d) (λ i. answered i (Withdraw by to on right) ≡ 0) (λ i d. leb d 7)
       (λ i d. dropped i (grant to on right d)) (λ i ds. dropped_all i (map (λ d. grant to on right d) ds))
   journal_singles n = record {
-    done = λ i d e h. number_of i d (leb-true d 7 h) ∙ e;
+    done = λ i d e h. same_number i d (leb-true d 7 h) ∙ e;
     leaves = λ i d e. stepped i (Drop by to on right d) e;
     still = λ i d e h. rw (held_less (grant to on right d) by on 0 (not_own by to on right d n) i.grants) e;
     others = λ i d e h k q. q;
