@@ -1,4 +1,4 @@
--- One bit put into many cells, for any width w: what a loop over the cells has done after each turn (`Marks-more`), and what it does to
+-- One bit put into many cells, for any width w: what a loop over the cells has done after each turn (`marks_more`), and what it does to
 -- an image's bits (`at-with_bits`).
 use mathlib.Core.Path.{◌≡◌, refl, sym, ap, ◌∙◌}
 use mathlib.Core.Bool.{Bool, true, false, ◌&&◌, ◌||◌, cond, or-false, or-true}

@@ -245,7 +245,7 @@ pub fn offer(grants: &mut [u8], loans: &mut [u32], c: Command) -> Outcome
 }
 
 // The same, given what numbers 1 and 2 say of the images: `Done`, from a caller that has kept them in order.
-pub fn offer_given(order: Answer, grants: &mut [u8], loans: &mut [u32], c: Command) -> Outcome
+fn offer_given(order: Answer, grants: &mut [u8], loans: &mut [u32], c: Command) -> Outcome
     requires { number_of order ≡ chain_guarded (images grants.old loans.old) true 0 }
     ensures { RanCounting chain_unit (images grants.old loans.old) c result
         (images grants.new loans.new) }
@@ -500,7 +500,7 @@ pub fn check(
 }
 
 // The same, given what numbers 1 and 2 say of the images and the chain buffer.
-pub fn check_given(
+fn check_given(
     order: Answer,
     grants: &[u8],
     loans: &[u32],

@@ -342,7 +342,7 @@ pub fn offer(image: &mut [u64], c: Command) -> Offered
 }
 
 // The same, given what numbers 1 and 2 say of the image: `Done`, from a caller that has kept it in order.
-pub fn offer_given(order: Answer, image: &mut [u64], c: Command) -> Offered
+fn offer_given(order: Answer, image: &mut [u64], c: Command) -> Offered
     requires { number_of order ≡ guarded lists image.old 0 }
     ensures { Offers (flat_unit lists) image.old c result image.new }
 {
@@ -360,7 +360,7 @@ pub fn check(image: &[u64], who: u32, on: u32, right: u32) -> Checked
 }
 
 // The same, given what numbers 1 and 2 say of the image.
-pub fn check_given(order: Answer, image: &[u64], who: u32, on: u32, right: u32) -> Checked
+fn check_given(order: Answer, image: &[u64], who: u32, on: u32, right: u32) -> Checked
     requires { number_of order ≡ guarded lists image.now 0 }
     ensures { Checks lists image.now who on right result image.now }
 {

@@ -1,4 +1,4 @@
--- What every journal keeps, from the fresh one on and over every command; the theorems are `Kept-fresh` and `Kept-step`.
+-- What every journal keeps, from the fresh one on and over every command; the theorems are `kept_fresh` and `kept_step`.
 use Rattle.std.specs.Prelude.{◌≡◌, Bool, true, not, ◌&&◌, ℕ, ◌≤◌, eqb, List, [], ◌∷◌, length}
 use Rattle.bits.specs.Sets.{any, all}
 use Rattle.model.specs.Commands.{items, right_depth, shifts, most_loans}

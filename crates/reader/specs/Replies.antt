@@ -17,7 +17,7 @@ use Rattle.transcript.specs.Program.{reply_of, via_of, units_after}
 abbrev pub units_in : List ℕ → List ℕ → List ℕ → List ℕ → Units
 units_in list row grants loans = record { lists = list; rows = row; chains = images grants loans }
 
--- the three units are in order: fresh ones are, and no line takes them out of it, so that none is looked at again
+-- the three units are in order: fresh ones are, and no line takes them out of it
 pub record UnitsInOrder (u : Units) : Type 0 where
   pub list : InOrder (flat_unit lists) u.lists
   pub row : InOrder (flat_unit rows) u.rows

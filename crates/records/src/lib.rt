@@ -1,5 +1,5 @@
-// The records of a ticket unit as structs in a lent slice. No function that is lent structs can be called from another one here: the three
-// that are lent some are exported, in crate rights_c (records_unit), and this file has what they call, by value.
+// The records of a ticket unit as structs in a lent slice. The three functions that are lent structs are exported, in crate rights_c
+// (records_unit); this file has what they call, by value.
 
 #![tactic(auto)]
 

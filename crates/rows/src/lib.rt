@@ -259,7 +259,7 @@ pub fn offer(image: &mut [u8], c: Command) -> Offered
 }
 
 // The same, given what numbers 1 and 2 say of the image: `Done`, from a caller that has kept it in order.
-pub fn offer_given(order: Answer, image: &mut [u8], c: Command) -> Offered
+fn offer_given(order: Answer, image: &mut [u8], c: Command) -> Offered
     requires { number_of order ≡ guarded rows image.old 0 }
     ensures { Offers (flat_unit rows) image.old c result image.new }
 {
@@ -277,7 +277,7 @@ pub fn check(image: &[u8], who: u32, on: u32, right: u32) -> Checked
 }
 
 // The same, given what numbers 1 and 2 say of the image.
-pub fn check_given(order: Answer, image: &[u8], who: u32, on: u32, right: u32) -> Checked
+fn check_given(order: Answer, image: &[u8], who: u32, on: u32, right: u32) -> Checked
     requires { number_of order ≡ guarded rows image.now 0 }
     ensures { Checks rows image.now who on right result image.now }
 {
