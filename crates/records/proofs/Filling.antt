@@ -1,6 +1,6 @@
 -- A slice is filled from an image, place by place. After k places its first k structs are the image's, and where k is 0 nothing is changed.
 -- So where reading is refused, which goes through no place, the slice is as it was; else every place is the image's.
-use mathlib.Core.Path.{◌≡◌, sym, ◌∙◌, ap, subst}
+use mathlib.Core.Path.{◌≡◌, refl, sym, ◌∙◌, ap, subst}
 use mathlib.Core.Bool.{Bool, true, ◌&&◌, cond}
 use mathlib.Core.List.{List, [], ◌∷◌, ◌++◌}
 use Prim.Native.Nat.{ℕ, ◌+◌, ◌≤◌, ◌<◌}
@@ -53,6 +53,9 @@ module _ (s : List ℕ) (ys : List Ticket) where
   places_fit =
       by_cases (eqb (read_number s n) 0)
       (λ t. let e = (passed s n (eqb-true (read_number s n) 0 t)).1 in rw t (omega (arith, e))) (λ t. rw t (omega arith))
+
+  pub fill_starts : Facts 0 ys
+  fill_starts = (refl, refl, λ z. refl)
 
   pub fill_goes : (k : ℕ) (zs : List Ticket) (t : Ticket) → k < places → Facts k zs → t ≡ ticket_at s k → Facts (k + 1) (set zs k t)
   fill_goes k zs t l fs e =

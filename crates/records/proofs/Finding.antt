@@ -54,6 +54,9 @@ module _ (ys : List Ticket) (p o r : ℕ) where
   places_fit =
       by_cases (eqb number 0) (λ t. let e = (accepted (eqb-true number 0 t)).0 in rw t (omega (arith, e))) (λ t. rw t (omega arith))
 
+  pub find_starts : Facts 0 0
+  find_starts = (λ z. refl, refl)
+
   pub find_goes : (k v u : ℕ) → k < n → Facts k v → u ≡ found_of (inquiry_of n p o r) v (get_or ys k vacant) → Facts (k + 1) u
   unfolding any
   find_goes k v u l fs e =

@@ -1,3 +1,4 @@
+pub mod Judging
 pub mod Records
 pub mod Filling
 pub mod Finding

@@ -1,7 +1,7 @@
 -- The slice and the image tell the same: the records of an image stand where the image has them, `record_at_lem`; where reading is not refused
 -- it fills every place with them, and the check over them is the unit's check, `tie`, since both ask the same of the same records.
 use mathlib.Core.Path.{◌≡◌, refl, sym, ◌∙◌, ap, subst}
-use mathlib.Core.Bool.{◌&&◌, and-true}
+use mathlib.Core.Bool.{◌&&◌}
 use mathlib.Core.List.{List, [], ◌∷◌}
 use Prim.Native.Nat.{ℕ, zero, suc, ◌+◌, ◌-◌, ◌*◌, ◌<◌}
 use native.Mathlib.Omega.{arith}
@@ -15,7 +15,8 @@ use Rattle.ticketing.specs.Machine.{vacant, most_tickets, holds}
 use Rattle.ticketing.specs.Order.{is_in_order}
 use Rattle.ticketing.specs.Image.{ticket_words, ticket_of, tickets_in, machine_of, ticket_at}
 use Rattle.ticketing.specs.Unit.{guarded, check_number}
-use Rattle.records.specs.Records.{read_number, read_records, record_at, records_number, Tells, Tie}
+use Rattle.records.specs.Records.{read_records, record_at, records_number, Tells, Tie}
+use Rattle.records.proofs.Judging.{read_number_lem}
 
 -- ---- the tickets of words, two each
 two_on : (k : ℕ) → 2 * suc k ≡ suc (suc (2 * k))
@@ -69,10 +70,6 @@ told s e =
       yes = λ p o r. ap (λ (k : ℕ). eqb k 0 && holds (machine_of s) p o r) (n p o r);
       place = record_at_lem s l;
     }
-
--- where the slice has its places, the number of reading is the image's own
-read_number_lem : (s : List ℕ) (places : ℕ) → places ≡ most_tickets → read_number s places ≡ guarded s 0
-read_number_lem s places l = rw (eq-eqb places most_tickets l, and-true (eqb (length s) ticket_words))
 
 pub tie : (s : List ℕ) (ts : List Ticket) → Tie s ts
 tie s ts e l =

@@ -93,6 +93,12 @@ held_code w h l n z = let e = ne_eqb h 0 z in rw e (go (eqb (w % 4294967296) 0 &
     go false b = refl
 
 -- ---- an item and a right as one number
+key_code : (w : ℕ) → w / 4294967296 % 65536 ≡ key_of (w / 4294967296 % 256) (w / 1099511627776 % 256)
+key_code w = omega arith
+
+pub is_held_code : (w h p key : ℕ) → bit h p && eqb (w / 4294967296 % 65536) key ≡ held_for p key (ticket_of w h)
+is_held_code w h p key = rw (key_code w)
+
 key_same : (i o r q : ℕ) → i < 256 → o < 256 → eqb (key_of i r) (key_of o q) ≡ eqb i o && eqb r q
 key_same i o r q a b =
     iff (eqb (key_of i r) (key_of o q)) (eqb i o && eqb r q)

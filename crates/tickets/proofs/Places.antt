@@ -17,7 +17,7 @@ use Rattle.bits.proofs.Sets.{iff, or_right}
 use Rattle.bits.proofs.Bits.{without_le}
 use Rattle.ticketing.specs.declared.Ticket.{Ticket}
 use Rattle.ticketing.specs.Machine.{Tickets, ticket, tickets, vacant, vacancies, only, fresh_tickets, is_live, put, issue, without}
-use Rattle.ticketing.specs.Image.{ticket_words, word_of, words_of, tickets_in, image_of, machine_of, ticket_at, from}
+use Rattle.ticketing.specs.Image.{ticket_words, word_of, ticket_of, words_of, tickets_in, image_of, machine_of, ticket_at, from}
 use Rattle.ticketing.proofs.Images.{from_step, from_end, from_zero, image-parts, word_is}
 use Rattle.ticketing.specs.Unit.{fresh_image}
 use Rattle.tickets.specs.Places.{place_of, is_free, live_numbers, placed, placed_ticket, Issued}
@@ -170,6 +170,10 @@ placed-words s k t e = ap (λ (x : List ℕ). placed_ticket x k t) (sym (image-p
 pub next-image : (m : Tickets) (n : ℕ) → set (image_of m) 1 n ≡ image_of (tickets m.live n m.records)
 unfolding image_of
 next-image m n = refl
+
+-- the words of a place are those of its ticket
+pub place-words : (s : List ℕ) (k w h : ℕ) → w ≡ get_or s (2 + 2 * k) 0 → placed s k w h ≡ placed s k (word_of (ticket_of (get_or s (2 + 2 * k) 0) h)) h
+place-words s k w h e = ap (λ (x : ℕ). placed s k x h) (e ∙ sym (word_is (get_or s (2 + 2 * k) 0)))
 
 -- ---- a pass over every place: f of the tickets before place k, the others as they were
 pub record Swept (f : Ticket → Ticket) (s x : List ℕ) (k : ℕ) : Type 0 where
