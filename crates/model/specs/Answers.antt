@@ -1,19 +1,13 @@
 -- What a command answers: the numbers of documents 01 and 02, and the one table of answers for the journal and every unit.
-use Rattle.std.specs.Prelude.{◌≡◌, Bool, true, false, not, ◌&&◌, ◌||◌, cond, ℕ, eqb}
+use Rattle.std.specs.Prelude.{◌≡◌, Bool, true, false, not, ◌&&◌, ◌||◌, cond, Option, Some, None, Result, Ok, Err, ⊤, is_some, ℕ, eqb}
 use Rattle.model.specs.declared.Command.{Command}
 use Rattle.model.specs.declared.Verb.{Verb}
 use Rattle.model.specs.declared.Verb.TheVariants as verb
-use Rattle.model.specs.declared.Edit.{Edit}
-use Rattle.model.specs.declared.Edit.TheVariants as edit
 use Rattle.model.specs.declared.Arguments.{Arguments}
 use Rattle.model.specs.declared.Facts.{Facts}
-use Rattle.model.specs.declared.Checked.{Checked}
-use Rattle.model.specs.declared.Checked.TheVariants as checked
-use Rattle.model.specs.declared.ChainChecked.{ChainChecked}
-use Rattle.model.specs.declared.ChainChecked.TheVariants as chain
-use Rattle.model.specs.declared.Answer.{Answer}
-use Rattle.model.specs.declared.Answer.TheVariants as is
-use Rattle.model.specs.declared.Outcome.{Outcome}
+use Rattle.model.specs.declared.BestChain.{BestChain}
+use Rattle.model.specs.declared.Refusal.{Refusal}
+use Rattle.model.specs.declared.Refusal.TheVariants as is
 use Rattle.model.specs.Commands.{arguments_of, fits, items, right_depth, is_empty}
 
 -- n when the test holds, else m: a row of the table, then the rows below it
@@ -21,32 +15,30 @@ infixr 10 ◌when◌else◌
 abbrev pub ◌when◌else◌ : ℕ → Bool → ℕ → ℕ
 n when b else m = cond b n m
 
--- the number of each answer
-abbrev pub number_of : Answer → ℕ
-number_of is.Done = 0
-number_of is.WrongLength = 1
-number_of is.NotInOrder = 2
-number_of is.OutOfRange = 3
-number_of is.ByDead = 4
-number_of is.NamedDead = 5
-number_of is.AlreadyLive = 6
-number_of is.RootItem = 7
-number_of is.NoEdit = 8
-number_of is.EditRight = 9
-number_of is.Full = 10
-number_of is.Malformed = 11
-number_of is.ShiftBack = 12
-number_of is.LastPast = 13
-number_of is.EmptySet = 14
+-- the number of each refusal
+abbrev pub refusal_number : Refusal → ℕ
+refusal_number is.WrongLength = 1
+refusal_number is.NotInOrder = 2
+refusal_number is.OutOfRange = 3
+refusal_number is.ByDead = 4
+refusal_number is.NamedDead = 5
+refusal_number is.AlreadyLive = 6
+refusal_number is.RootItem = 7
+refusal_number is.NoEdit = 8
+refusal_number is.EditRight = 9
+refusal_number is.Full = 10
+refusal_number is.Malformed = 11
+refusal_number is.ShiftBack = 12
+refusal_number is.LastPast = 13
+refusal_number is.EmptySet = 14
 -- of the ticket unit alone
-number_of is.TicketsFull = 15
-number_of is.NumbersSpent = 16
-number_of is.NoTicket = 17
+refusal_number is.TicketsFull = 15
+refusal_number is.NumbersSpent = 16
+refusal_number is.NoTicket = 17
 
--- the answer whose number is n
-unfoldable pub answer_for : ℕ → Answer
-answer_for n =
-    cond (eqb n 0) is.Done (
+-- the refusal whose number is n
+unfoldable pub refusal_for : ℕ → Refusal
+refusal_for n =
     cond (eqb n 1) is.WrongLength (
     cond (eqb n 2) is.NotInOrder (
     cond (eqb n 3) is.OutOfRange (
@@ -63,47 +55,45 @@ answer_for n =
     cond (eqb n 15) is.TicketsFull (
     cond (eqb n 16) is.NumbersSpent (
     cond (eqb n 17) is.NoTicket (
-    is.Malformed)))))))))))))))))
+    is.Malformed))))))))))))))))
 
--- r is that answer, and n its number
-abbrev pub Numbered : Answer → ℕ → Type 0
-Numbered r n = (number_of r ≡ n) × (r ≡ answer_for n)
+-- the number of an answer: 0 where the call is done, whatever it finds
+abbrev pub number_of : {A : Type 0} → Result A Refusal → ℕ
+number_of (Ok a) = 0
+number_of (Err r) = refusal_number r
 
--- ---- a command: its result
+-- the answer with number n: what is found where n is 0, else the refusal
+unfoldable pub answered : {A : Type 0} → ℕ → A → Result A Refusal
+answered n a = cond (eqb n 0) (Ok a) (Err (refusal_for n))
+
+-- the same of a call that finds nothing
+abbrev pub answer_for : ℕ → Result ⊤ Refusal
+answer_for n = answered n tt
+
+-- r has number n, and finds a where that is 0
+abbrev pub Numbered : {A : Type 0} → Result A Refusal → ℕ → A → Type 0
+Numbered r n a = (number_of r ≡ n) × (r ≡ answered n a)
+
+-- ---- a command: its effect
 -- what a command comes to in some state: its number, a count, and the state that it leaves
-pub record Result (S : Type 0) : Type 0 where
+pub record Effect (S : Type 0) : Type 0 where
   pub number : ℕ
   pub count : ℕ
   pub state : S
 
--- 'Where this or any later call is refused, whatever else it returns is 0 and every lent byte is unchanged': the result with number n of a
+-- 'Where this or any later call is refused, whatever else it returns is 0 and every lent byte is unchanged': the effect with number n of a
 -- command in state s that, where it is accepted, counts k and leaves x
-abbrev pub result_of : {S : Type 0} → S → ℕ → ℕ → S → Result S
-result_of s n k x = record { number = n; count = cond (eqb n 0) k 0; state = cond (eqb n 0) x s }
+abbrev pub effect_of : {S : Type 0} → S → ℕ → ℕ → S → Effect S
+effect_of s n k x = record { number = n; count = cond (eqb n 0) k 0; state = cond (eqb n 0) x s }
 
--- the outcome of a refused command with this answer
-abbrev pub refusal : Answer → Outcome
-refusal a = record { answer = a; count = 0 }
+-- answer r and state x are that effect
+abbrev pub Returns : {S : Type 0} → Effect S → Result ℕ Refusal → S → Type 0
+Returns q r x = Numbered r q.number q.count × (x ≡ q.state)
 
--- outcome r and state x are that result
-abbrev pub Returns : {S : Type 0} → Result S → Outcome → S → Type 0
-Returns q r x = Numbered r.answer q.number × (r.count ≡ q.count) × (x ≡ q.state)
-
--- ---- a check: its number
-abbrev pub checked_number : Checked → ℕ
-checked_number checked.Yes = 0
-checked_number checked.No = 0
-checked_number (checked.Refused a) = number_of a
-
--- whether it says yes
-abbrev pub checked_yes : Checked → Bool
-checked_yes checked.Yes = true
-checked_yes checked.No = false
-checked_yes (checked.Refused a) = false
-
--- the answer with this number, and with this yes or no where the number is 0
-unfoldable pub checked_of : ℕ → Bool → Checked
-checked_of n said = cond (eqb n 0) (cond said checked.Yes checked.No) (checked.Refused (answer_for n))
+-- ---- a check: whether it says yes
+abbrev pub checked_yes : Result Bool Refusal → Bool
+checked_yes (Ok said) = said
+checked_yes (Err r) = false
 
 -- ---- the same of a chain unit's check
 -- what it finds: yes or no, depth and number of persons
@@ -116,25 +106,15 @@ pub record Found : Type 0 where
 abbrev pub nothing : Found
 nothing = record { yes = false; depth = 0; persons = 0 }
 
--- its number, and what its answer tells
-abbrev pub chain_number : ChainChecked → ℕ
-chain_number (chain.Yes d n) = 0
-chain_number chain.No = 0
-chain_number (chain.Refused a) = number_of a
-
 -- what its answer tells: a yes with its values, else nothing
-abbrev pub found_in : ChainChecked → Found
-found_in (chain.Yes d n) = record { yes = true; depth = d.0; persons = n }
-found_in chain.No = nothing
-found_in (chain.Refused a) = nothing
+abbrev pub found_in : Result (Option BestChain) Refusal → Found
+found_in (Ok (Some best)) = record { yes = true; depth = best.depth.0; persons = best.persons }
+found_in (Ok None) = nothing
+found_in (Err r) = nothing
 
--- the answer to what was found
-unfoldable pub found_said : Found → ChainChecked
-found_said f = cond f.yes (chain.Yes (record { 0 = f.depth }) f.persons) chain.No
-
--- the answer with this number, and to what was found where the number is 0
-unfoldable pub chain_checked_of : ℕ → Found → ChainChecked
-chain_checked_of n f = cond (eqb n 0) (found_said f) (chain.Refused (answer_for n))
+-- the chain that was found
+unfoldable pub found_said : Found → Option BestChain
+found_said f = cond f.yes (Some (record { depth = record { 0 = f.depth }; persons = f.persons })) None
 
 -- ---- the table
 -- the numbers from 5 on that each command knows, in the words of the table ('create: ..', 'delete: ..', 'lend: ..')
@@ -152,18 +132,9 @@ knows verb.Drop n = eqb n 5 || eqb n 8
 -- '`do=sweep by` (numbers 1 to 4)'
 knows verb.Sweep n = false
 
--- 'Each has the first four commands', and of allowset 'all units .. have it': lists and rows are called for what changes every image alike
-abbrev pub flat_edit : Edit → Bool
-flat_edit edit.Create = true
-flat_edit edit.Delete = true
-flat_edit edit.Allow = true
-flat_edit edit.Withdraw = true
-flat_edit edit.AllowSet = true
-flat_edit edit.Nothing = false
-
--- lists and rows have the command
+-- 'Each has the first four commands', and of allowset 'all units .. have it': lists and rows have what changes every image alike
 abbrev pub flat : Command → Bool
-flat c = flat_edit (arguments_of c).edit
+flat c = is_some (arguments_of c).edit
 
 -- 'The lowest number that applies is given': the rows past 3, in their order, with '14 when the set is empty, straight after 3' and
 -- '12 .. after 8; 13, for lend only, .. between 9 and 10'

@@ -1,7 +1,7 @@
 -- Items, rights, depths, shifts and sets of items: the limits of documents 01 and 02, and the arguments of a command, raw and within
 -- their limits.
 -- The commands are the enum `Command` of src/; its numbers are any numbers here.
-use Rattle.std.specs.Prelude.{Bool, true, false, ◌&&◌, cond, List, [], ◌∷◌, ℕ, ◌≤◌, eqb, leb, length}
+use Rattle.std.specs.Prelude.{Bool, true, false, ◌&&◌, cond, List, [], ◌∷◌, Option, Some, None, ℕ, ◌≤◌, eqb, leb, length}
 use Rattle.bits.specs.Bits.{members}
 use Rattle.model.specs.declared.Command.{Command}
 use Rattle.model.specs.declared.Command.TheVariants.{Create, Delete, Allow, Withdraw, Lend, Recall, Shift, AllowSet, Drop, Sweep}
@@ -11,41 +11,34 @@ use Rattle.model.specs.declared.Edit.{Edit}
 use Rattle.model.specs.declared.Edit.TheVariants as edit
 use Rattle.model.specs.declared.Arguments.{Arguments}
 use Rattle.model.specs.declared.Typed.{Typed}
-use Rattle.model.specs.declared.Within.{Within}
-use Rattle.model.specs.declared.Within.TheVariants as within
-use Rattle.model.specs.declared.ItemRead.{ItemRead}
-use Rattle.model.specs.declared.ItemRead.TheVariants as itemRead
-use Rattle.model.specs.declared.RightRead.{RightRead}
-use Rattle.model.specs.declared.RightRead.TheVariants as rightRead
-use Rattle.model.specs.declared.DepthRead.{DepthRead}
-use Rattle.model.specs.declared.DepthRead.TheVariants as depthRead
-use Rattle.model.specs.declared.ShiftRead.{ShiftRead}
-use Rattle.model.specs.declared.ShiftRead.TheVariants as shiftRead
+use Rattle.model.specs.declared.Item.{Item}
+use Rattle.model.specs.declared.Right.{Right}
+use Rattle.model.specs.declared.Depth.{Depth}
+use Rattle.model.specs.declared.Shift as shiftKind
 use Rattle.model.specs.declared.Question.{Question}
-use Rattle.model.specs.declared.Question.TheVariants as question
 
 -- ---- the arguments; a command without a `to` names `on` alone, one without a right, a depth, a shift or a set has 0 there
-abbrev pub arguments : Verb → Edit → ℕ → ℕ → ℕ → ℕ → ℕ → ℕ → ℕ → Arguments
+abbrev pub arguments : Verb → Option Edit → ℕ → ℕ → ℕ → ℕ → ℕ → ℕ → ℕ → Arguments
 arguments v e by to on right depth shift set =
     record { verb = v; edit = e; by = by; to = to; on = on; right = right; depth = depth; shift = shift; set = set }
 
 -- each command's arguments, in the order in which the paper names them
 abbrev pub arguments_of : Command → Arguments
-arguments_of (Create by on) = arguments verb.Create edit.Create by on on 0 0 0 0
-arguments_of (Delete by on) = arguments verb.Delete edit.Delete by on on 0 0 0 0
-arguments_of (Allow by to on right depth) = arguments verb.Allow edit.Allow by to on right depth 0 0
-arguments_of (Withdraw by to on right) = arguments verb.Withdraw edit.Withdraw by to on right 0 0 0
+arguments_of (Create by on) = arguments verb.Create (Some edit.Create) by on on 0 0 0 0
+arguments_of (Delete by on) = arguments verb.Delete (Some edit.Delete) by on on 0 0 0 0
+arguments_of (Allow by to on right depth) = arguments verb.Allow (Some edit.Allow) by to on right depth 0 0
+arguments_of (Withdraw by to on right) = arguments verb.Withdraw (Some edit.Withdraw) by to on right 0 0 0
 -- 'lend and recall gain `last` at the end'
-arguments_of (Lend by to on right depth last) = arguments verb.Lend edit.Nothing by to on right depth last 0
-arguments_of (Recall by to on right depth last) = arguments verb.Recall edit.Nothing by to on right depth last 0
+arguments_of (Lend by to on right depth last) = arguments verb.Lend None by to on right depth last 0
+arguments_of (Recall by to on right depth last) = arguments verb.Recall None by to on right depth last 0
 -- '`do=shift by now` .. needs edit on item 0', which is the item it is about
-arguments_of (Shift by now) = arguments verb.Shift edit.Nothing by 0 0 0 0 now 0
+arguments_of (Shift by now) = arguments verb.Shift None by 0 0 0 0 now 0
 -- '`allowset` takes by, set .., on, right, depth'
-arguments_of (AllowSet by set on right depth) = arguments verb.AllowSet edit.AllowSet by on on right depth 0 set
+arguments_of (AllowSet by set on right depth) = arguments verb.AllowSet (Some edit.AllowSet) by on on right depth 0 set
 -- '`drop` (by, to, on, right, depth)': a depth of the grants of a chain unit, which lists and rows do not have
-arguments_of (Drop by to on right depth) = arguments verb.Drop edit.Nothing by to on right depth 0 0
+arguments_of (Drop by to on right depth) = arguments verb.Drop None by to on right depth 0 0
 -- '`do=sweep by`': it names no other item
-arguments_of (Sweep by) = arguments verb.Sweep edit.Nothing by 0 0 0 0 0 0
+arguments_of (Sweep by) = arguments verb.Sweep None by 0 0 0 0 0 0
 
 -- sweep 'returns how many there were': the one command that counts
 abbrev pub sweeps : Verb → Bool
@@ -124,28 +117,30 @@ typed_of a = record {
 abbrev pub raw_of : Typed → Arguments
 raw_of t = arguments t.verb t.edit t.by.0 t.to.0 t.on.0 t.right.0 t.depth.0 t.shift.0 t.set.0
 
--- number 3 is `Beyond`
-abbrev pub within_of : Arguments → Within
-within_of a = cond (fits a) (within.Typed (typed_of a)) within.Beyond
+-- none where number 3 applies
+abbrev pub within_of : Arguments → Option Typed
+within_of a = cond (fits a) (Some (typed_of a)) None
 
--- the arguments of a check; number 3 is `Beyond`
-abbrev pub question_of : ℕ → ℕ → ℕ → Question
-question_of who on right =
-    cond (items who on && right_depth right 0) (question.Asked (record { 0 = who }) (record { 0 = on }) (record { 0 = right }))
-    question.Beyond
+-- the arguments of a check, each as its kind
+abbrev pub asking : ℕ → ℕ → ℕ → Question
+asking who on right = record { who = record { 0 = who }; on = record { 0 = on }; right = record { 0 = right } }
+
+-- none where number 3 applies
+abbrev pub question_of : ℕ → ℕ → ℕ → Option Question
+question_of who on right = cond (items who on && right_depth right 0) (Some (asking who on right)) None
 
 -- a number as an item
-abbrev pub item_of : ℕ → ItemRead
-item_of n = cond (leb n 63) (itemRead.Within (record { 0 = n })) itemRead.Beyond
+abbrev pub item_of : ℕ → Option Item
+item_of n = cond (leb n 63) (Some (record { 0 = n })) None
 
 -- a number as a right
-abbrev pub right_of : ℕ → RightRead
-right_of n = cond (leb n 7) (rightRead.Within (record { 0 = n })) rightRead.Beyond
+abbrev pub right_of : ℕ → Option Right
+right_of n = cond (leb n 7) (Some (record { 0 = n })) None
 
 -- a number as a depth
-abbrev pub depth_of : ℕ → DepthRead
-depth_of n = cond (leb n 7) (depthRead.Within (record { 0 = n })) depthRead.Beyond
+abbrev pub depth_of : ℕ → Option Depth
+depth_of n = cond (leb n 7) (Some (record { 0 = n })) None
 
 -- a number as a shift
-abbrev pub shift_of : ℕ → ShiftRead
-shift_of n = cond (leb n 255) (shiftRead.Within (record { 0 = n })) shiftRead.Beyond
+abbrev pub shift_of : ℕ → Option shiftKind.Shift
+shift_of n = cond (leb n 255) (Some (record { 0 = n })) None

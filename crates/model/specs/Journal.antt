@@ -8,7 +8,7 @@ use Rattle.model.specs.declared.Arguments.{Arguments}
 use Rattle.model.specs.declared.Facts.{Facts}
 use Rattle.bits.specs.Sets.{any, all, keep, add, count}
 use Rattle.model.specs.Commands.{arguments_of, is_sweep, fits, members_of, is_empty, depths, most_loans}
-use Rattle.model.specs.Answers.{Result, result_of, answer, ◌when◌else◌}
+use Rattle.model.specs.Answers.{Effect, effect_of, answer, ◌when◌else◌}
 
 -- 'a set of grants (person, item, right, depth)'
 pub record Grant : Type 0 where
@@ -242,8 +242,8 @@ abbrev pub counts : Journal → Command → ℕ
 counts j c = cond (is_sweep c) (count (λ (l : Loan). is_past j.shift l.last) j.loans) 0
 
 -- what a command comes to
-abbrev pub result : Journal → Command → Result Journal
-result j c = result_of j (answered j c) (counts j c) (apply j c)
+abbrev pub result : Journal → Command → Effect Journal
+result j c = effect_of j (answered j c) (counts j c) (apply j c)
 
 -- the journal after a command: 'a refused command changes nothing in it'
 abbrev pub step : Journal → Command → Journal

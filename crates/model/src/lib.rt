@@ -2,9 +2,9 @@
 
 #![tactic(auto)]
 
-ghost use Rattle.std.specs.Prelude.{◌≡◌};
-ghost use Rattle.model.specs.Commands.{items, right_depth, shifts, arguments, arguments_of, sweeps, is_sweep, is_empty, fits, typed_of, within_of, raw_of, question_of, item_of, right_of, depth_of, shift_of};
-ghost use Rattle.model.specs.Answers.{number_of, answer_for, refusal, checked_of, flat_edit, flat, knows, table, ◌when◌else◌};
+ghost use Rattle.std.specs.Prelude.{◌≡◌, cond, ◌&&◌};
+ghost use Rattle.model.specs.Commands.{items, right_depth, shifts, arguments, arguments_of, is_sweep, is_empty, fits, typed_of, within_of, raw_of, question_of, item_of, right_of, depth_of, shift_of};
+ghost use Rattle.model.specs.Answers.{refusal_number, number_of, answer_for, flat, knows, table};
 
 // An item number, 0 to 63.
 #[derive(Clone, Copy)]
@@ -30,13 +30,10 @@ impl Item {
     pub const MAX: u32 = 63;
 
     // The range check of one number.
-    pub fn read(n: u32) -> ItemRead
+    pub fn read(n: u32) -> Option<Item>
         ensures { result ≡ item_of n }
     {
-        if n > Item::MAX {
-            return ItemRead::Beyond;
-        }
-        ItemRead::Within(Item(n))
+        (n <= Item::MAX).then_some(Item(n))
     }
 
     // Item 0 (document 01's 'the house').
@@ -57,13 +54,10 @@ impl Right {
     pub const MAX: u32 = 7;
 
     // The range check of one number.
-    pub fn read(n: u32) -> RightRead
+    pub fn read(n: u32) -> Option<Right>
         ensures { result ≡ right_of n }
     {
-        if n > Right::MAX {
-            return RightRead::Beyond;
-        }
-        RightRead::Within(Right(n))
+        (n <= Right::MAX).then_some(Right(n))
     }
 
     // The right to edit an item's grants.
@@ -84,13 +78,10 @@ impl Depth {
     pub const MAX: u32 = 7;
 
     // The range check of one number.
-    pub fn read(n: u32) -> DepthRead
+    pub fn read(n: u32) -> Option<Depth>
         ensures { result ≡ depth_of n }
     {
-        if n > Depth::MAX {
-            return DepthRead::Beyond;
-        }
-        DepthRead::Within(Depth(n))
+        (n <= Depth::MAX).then_some(Depth(n))
     }
 
     // The depth of a grant that no loan may stand on.
@@ -111,13 +102,10 @@ impl Shift {
     pub const MAX: u32 = 255;
 
     // The range check of one number.
-    pub fn read(n: u32) -> ShiftRead
+    pub fn read(n: u32) -> Option<Shift>
         ensures { result ≡ shift_of n }
     {
-        if n > Shift::MAX {
-            return ShiftRead::Beyond;
-        }
-        ShiftRead::Within(Shift(n))
+        (n <= Shift::MAX).then_some(Shift(n))
     }
 
     // The shift of a fresh unit.
@@ -134,18 +122,11 @@ impl Shift {
     }
 }
 
-// Whether a number of 64 bits is the empty set.
-fn is_empty_set(n: u64) -> bool
-    ensures { result ≡ is_empty n }
-{
-    n == 0
-}
-
 impl ItemSet {
     pub fn is_empty(self) -> bool
         ensures { result ≡ is_empty self.0 }
     {
-        is_empty_set(self.0)
+        self.0 == 0
     }
 
     pub fn number(self) -> u64
@@ -153,34 +134,6 @@ impl ItemSet {
     {
         self.0
     }
-}
-
-// What a number is as an item.
-#[derive(Clone, Copy)]
-pub enum ItemRead {
-    Within(Item),
-    Beyond,
-}
-
-// What a number is as a right.
-#[derive(Clone, Copy)]
-pub enum RightRead {
-    Within(Right),
-    Beyond,
-}
-
-// What a number is as a depth.
-#[derive(Clone, Copy)]
-pub enum DepthRead {
-    Within(Depth),
-    Beyond,
-}
-
-// What a number is as a shift.
-#[derive(Clone, Copy)]
-pub enum ShiftRead {
-    Within(Shift),
-    Beyond,
 }
 
 // A command with the numbers that arrived.
@@ -269,7 +222,6 @@ pub enum Edit {
     Allow,
     Withdraw,
     AllowSet,
-    Nothing,
 }
 
 // The items that a command names.
@@ -291,7 +243,7 @@ struct RightDepth {
 #[derive(Clone, Copy)]
 pub struct Arguments {
     pub verb: Verb,
-    pub edit: Edit,
+    pub edit: Option<Edit>,
     pub by: u32,
     pub to: u32,
     pub on: u32,
@@ -305,7 +257,7 @@ pub struct Arguments {
 #[derive(Clone, Copy)]
 pub struct Typed {
     pub verb: Verb,
-    pub edit: Edit,
+    pub edit: Option<Edit>,
     pub by: Item,
     pub to: Item,
     pub on: Item,
@@ -313,12 +265,6 @@ pub struct Typed {
     pub depth: Depth,
     pub shift: Shift,
     pub set: ItemSet,
-}
-
-#[derive(Clone, Copy)]
-pub enum Within {
-    Typed(Typed),
-    Beyond,
 }
 
 // What the table asks of a state for one command: whether by, on and to live, every member of the set lives, by edits on, the shift
@@ -335,140 +281,70 @@ pub struct Facts {
     pub full: bool,
 }
 
-// What a command answers.
-#[derive(Clone, Copy)]
-pub enum Answer {
-    Done,
-    WrongLength,
-    NotInOrder,
-    OutOfRange,
-    ByDead,
-    NamedDead,
-    AlreadyLive,
-    RootItem,
-    NoEdit,
-    EditRight,
-    Full,
-    Malformed,
-    ShiftBack,
-    LastPast,
-    EmptySet,
-    TicketsFull,
-    NumbersSpent,
-    NoTicket,
+// What a command, a check or another call is refused for, with its number.
+#[derive(Clone, Copy, PartialEq, Eq)]
+pub enum Refusal {
+    WrongLength = 1,
+    NotInOrder = 2,
+    OutOfRange = 3,
+    ByDead = 4,
+    NamedDead = 5,
+    AlreadyLive = 6,
+    RootItem = 7,
+    NoEdit = 8,
+    EditRight = 9,
+    Full = 10,
+    Malformed = 11,
+    ShiftBack = 12,
+    LastPast = 13,
+    EmptySet = 14,
+    TicketsFull = 15,
+    NumbersSpent = 16,
+    NoTicket = 17,
 }
 
-impl Answer {
+impl Refusal {
     pub fn number(self) -> u32
-        ensures { result ≡ number_of self }
+        ensures { result ≡ refusal_number self }
     {
-        match self {
-            Answer::Done => 0,
-            Answer::WrongLength => 1,
-            Answer::NotInOrder => 2,
-            Answer::OutOfRange => 3,
-            Answer::ByDead => 4,
-            Answer::NamedDead => 5,
-            Answer::AlreadyLive => 6,
-            Answer::RootItem => 7,
-            Answer::NoEdit => 8,
-            Answer::EditRight => 9,
-            Answer::Full => 10,
-            Answer::Malformed => 11,
-            Answer::ShiftBack => 12,
-            Answer::LastPast => 13,
-            Answer::EmptySet => 14,
-            Answer::TicketsFull => 15,
-            Answer::NumbersSpent => 16,
-            Answer::NoTicket => 17,
-        }
+        self as u32
     }
 }
 
-// What a command of a chain unit returns: an answer, and how many loans it swept, 0 where it counts nothing.
-#[derive(Clone, Copy)]
-pub struct Outcome {
-    pub answer: Answer,
-    pub count: u32,
-}
-
-impl Outcome {
-    // Of a refused command, which counts nothing.
-    pub fn refused(answer: Answer) -> Outcome
-        ensures { result ≡ refusal answer }
-    {
-        Outcome { answer, count: 0 }
-    }
-
-    // The number of its answer.
-    pub fn number(self) -> u32
-        ensures { result ≡ number_of self.answer }
-    {
-        let a = self.answer;
-        a.number()
+// The number of any answer: 0 for done.
+pub fn number<T: Copy>(answer: Result<T, Refusal>) -> u32
+    ensures { result ≡ number_of answer }
+{
+    match answer {
+        Ok(_) => 0,
+        Err(refusal) => refusal.number(),
     }
 }
 
-// What a unit makes of any command: an answer, or nothing where the unit lacks it.
+// What the check of a chain unit finds: the depth of the best chain, and the number of its persons.
 #[derive(Clone, Copy)]
-pub enum Offered {
-    Answered(Answer),
-    Passed,
-}
-
-// What a check answers.
-#[derive(Clone, Copy)]
-pub enum Checked {
-    Yes,
-    No,
-    Refused(Answer),
-}
-
-impl Checked {
-    pub fn said(yes: bool) -> Checked
-        ensures { result ≡ checked_of 0 yes }
-    {
-        if yes { Checked::Yes } else { Checked::No }
-    }
-}
-
-// What a unit says of its subjects: a number, and the persons with at least one grant, bit i for item i; 0 beside a refusal.
-#[derive(Clone, Copy)]
-pub struct SubjectSet {
-    pub answer: Answer,
-    pub persons: u64,
-}
-
-// What the check of a chain unit answers.
-#[derive(Clone, Copy)]
-pub enum ChainChecked {
-    Yes { depth: Depth, persons: u32 },
-    No,
-    Refused(Answer),
+pub struct BestChain {
+    pub depth: Depth,
+    pub persons: u32,
 }
 
 // The arguments of a check, each within its range.
 #[derive(Clone, Copy)]
-pub enum Question {
-    Asked { who: Item, on: Item, right: Right },
-    Beyond,
+pub struct Question {
+    pub who: Item,
+    pub on: Item,
+    pub right: Right,
 }
 
 impl Question {
-    pub fn read(who: u32, on: u32, right: u32) -> Question
+    pub fn read(who: u32, on: u32, right: u32) -> Option<Question>
         ensures { result ≡ question_of who on right }
     {
-        if !are_items(who, on) {
-            return Question::Beyond;
-        }
-        if !are_right_depth(right, 0) {
-            return Question::Beyond;
-        }
-        Question::Asked {
+        (are_items(who, on) && are_right_depth(right, 0)).then_some(Question {
             who: Item(who),
             on: Item(on),
             right: Right(right),
-        }
+        })
     }
 }
 
@@ -491,56 +367,38 @@ fn is_shift(n: u32) -> bool
 }
 
 impl Verb {
-    // Whether the table has number n for it, from 5 on.
-    fn knows(self, n: u32) -> bool
-        ensures { result ≡ knows self n }
+    // Whether the table has that refusal for it, from number 5 on.
+    fn knows(self, refusal: Refusal) -> bool
+        ensures { result ≡ knows self (refusal_number refusal) }
     {
         match self {
-            Verb::Create => n == 6,
-            Verb::Delete => (n == 5) | (n == 7) | (n == 8),
-            Verb::Allow => (n == 5) | (n == 8),
-            Verb::Withdraw => (n == 5) | (n == 8),
-            Verb::Lend => (n == 5) | (n == 9) | (n == 13) | (n == 10),
-            Verb::Recall => n == 5,
-            Verb::Shift => (n == 8) | (n == 12),
-            Verb::AllowSet => (n == 14) | (n == 5) | (n == 8),
-            Verb::Drop => (n == 5) | (n == 8),
+            Verb::Create => matches!(refusal, Refusal::AlreadyLive),
+            Verb::Delete => matches!(
+                refusal,
+                Refusal::NamedDead | Refusal::RootItem | Refusal::NoEdit
+            ),
+            Verb::Allow => matches!(refusal, Refusal::NamedDead | Refusal::NoEdit),
+            Verb::Withdraw => matches!(refusal, Refusal::NamedDead | Refusal::NoEdit),
+            Verb::Lend => matches!(
+                refusal,
+                Refusal::NamedDead | Refusal::EditRight | Refusal::LastPast | Refusal::Full
+            ),
+            Verb::Recall => matches!(refusal, Refusal::NamedDead),
+            Verb::Shift => matches!(refusal, Refusal::NoEdit | Refusal::ShiftBack),
+            Verb::AllowSet => matches!(
+                refusal,
+                Refusal::EmptySet | Refusal::NamedDead | Refusal::NoEdit
+            ),
+            Verb::Drop => matches!(refusal, Refusal::NamedDead | Refusal::NoEdit),
             Verb::Sweep => false,
         }
     }
 
-    // Whether it is the one that counts.
-    fn is_sweep(self) -> bool
-        ensures { result ≡ sweeps self }
+    // A row of the table: the refusal of a command that knows it, where the state gives reason for it.
+    fn row(self, reason: bool, refusal: Refusal) -> Result<(), Refusal>
+        ensures { result ≡ cond (knows self (refusal_number refusal) && reason) (Err refusal) (Ok tt) }
     {
-        match self {
-            Verb::Create => false,
-            Verb::Delete => false,
-            Verb::Allow => false,
-            Verb::Withdraw => false,
-            Verb::Lend => false,
-            Verb::Recall => false,
-            Verb::Shift => false,
-            Verb::AllowSet => false,
-            Verb::Drop => false,
-            Verb::Sweep => true,
-        }
-    }
-}
-
-impl Edit {
-    // Whether lists and rows have its commands.
-    pub fn is_flat(self) -> bool
-        ensures { result ≡ flat_edit self }
-    {
-        match self {
-            Edit::Create => true,
-            Edit::Delete => true,
-            Edit::Allow => true,
-            Edit::Withdraw => true,
-            Edit::AllowSet => true,
-            Edit::Nothing => false,
-        }
+        refuse(self.knows(refusal) & reason, refusal)
     }
 }
 
@@ -612,7 +470,7 @@ impl Command {
     }
 
     // All of these, and what the command has beside them.
-    fn arguments_with(self, verb: Verb, edit: Edit, shift: u32, set: u64) -> Arguments
+    fn arguments_with(self, verb: Verb, edit: Option<Edit>, shift: u32, set: u64) -> Arguments
         ensures { result ≡ arguments verb edit (arguments_of self).by (arguments_of self).to (arguments_of self).on
             (arguments_of self).right (arguments_of self).depth shift set }
     {
@@ -636,26 +494,26 @@ impl Command {
         ensures { result ≡ arguments_of self }
     {
         match self {
-            Command::Create { .. } => self.arguments_with(Verb::Create, Edit::Create, 0, 0),
-            Command::Delete { .. } => self.arguments_with(Verb::Delete, Edit::Delete, 0, 0),
-            Command::Allow { .. } => self.arguments_with(Verb::Allow, Edit::Allow, 0, 0),
-            Command::Withdraw { .. } => self.arguments_with(Verb::Withdraw, Edit::Withdraw, 0, 0),
-            Command::Lend { last, .. } => self.arguments_with(Verb::Lend, Edit::Nothing, last, 0),
-            Command::Recall { last, .. } => self.arguments_with(
-                Verb::Recall,
-                Edit::Nothing,
-                last,
+            Command::Create { .. } => self.arguments_with(Verb::Create, Some(Edit::Create), 0, 0),
+            Command::Delete { .. } => self.arguments_with(Verb::Delete, Some(Edit::Delete), 0, 0),
+            Command::Allow { .. } => self.arguments_with(Verb::Allow, Some(Edit::Allow), 0, 0),
+            Command::Withdraw { .. } => self.arguments_with(
+                Verb::Withdraw,
+                Some(Edit::Withdraw),
+                0,
                 0,
             ),
-            Command::Shift { now, .. } => self.arguments_with(Verb::Shift, Edit::Nothing, now, 0),
+            Command::Lend { last, .. } => self.arguments_with(Verb::Lend, None, last, 0),
+            Command::Recall { last, .. } => self.arguments_with(Verb::Recall, None, last, 0),
+            Command::Shift { now, .. } => self.arguments_with(Verb::Shift, None, now, 0),
             Command::AllowSet { set, .. } => self.arguments_with(
                 Verb::AllowSet,
-                Edit::AllowSet,
+                Some(Edit::AllowSet),
                 0,
                 set,
             ),
-            Command::Drop { .. } => self.arguments_with(Verb::Drop, Edit::Nothing, 0, 0),
-            Command::Sweep { .. } => self.arguments_with(Verb::Sweep, Edit::Nothing, 0, 0),
+            Command::Drop { .. } => self.arguments_with(Verb::Drop, None, 0, 0),
+            Command::Sweep { .. } => self.arguments_with(Verb::Sweep, None, 0, 0),
         }
     }
 
@@ -663,62 +521,45 @@ impl Command {
     pub fn is_flat(self) -> bool
         ensures { result ≡ flat self }
     {
-        let a = self.arguments();
-        let edit = a.edit;
-        edit.is_flat()
+        self.arguments().edit.is_some()
     }
 
     // Whether it is the command that counts.
     pub fn is_sweep(self) -> bool
         ensures { result ≡ is_sweep self }
     {
-        let a = self.arguments();
-        let verb = a.verb;
-        verb.is_sweep()
+        matches!(self, Command::Sweep { .. })
     }
 
     // Number 3.
-    pub fn within(self) -> Within
+    pub fn within(self) -> Option<Typed>
         ensures { result ≡ within_of (arguments_of self) }
     {
         let a = self.arguments();
-        if !a.fits() {
-            return Within::Beyond;
-        }
-        Within::Typed(a.typed())
+        a.fits().then_some(a.typed())
     }
 }
 
-// A row of the table over the rows below it.
-fn row(applies: bool, answer: Answer, below: Answer) -> Answer
-    ensures { number_of result ≡ number_of answer when applies else number_of below }
+// A refusal where it applies.
+fn refuse(applies: bool, refusal: Refusal) -> Result<(), Refusal>
+    ensures { result ≡ cond applies (Err refusal) (Ok tt) }
 {
-    if applies {
-        return answer;
-    }
-    below
+    if applies { Err(refusal) } else { Ok(()) }
 }
 
-// Numbers 14, 4 to 8, 12, 9, 13 and 10, from the last row of the table up: the first that applies.
-pub fn judge(t: Typed, f: Facts) -> Answer
+// Numbers 14, 4 to 8, 12, 9, 13 and 10, in the order of the table: the first that applies.
+pub fn judge(t: Typed, f: Facts) -> Result<(), Refusal>
     ensures { result ≡ answer_for (table f (raw_of t)) }
 {
     let verb = t.verb;
-    let on = t.on;
-    let right = t.right;
-    let set = t.set;
-    let n = row(verb.knows(10) & f.full, Answer::Full, Answer::Done);
-    let n = row(verb.knows(13) & f.past, Answer::LastPast, n);
-    let n = row(verb.knows(9) & (right.0 == 0), Answer::EditRight, n);
-    let n = row(verb.knows(12) & f.back, Answer::ShiftBack, n);
-    let n = row(verb.knows(8) & !f.edits, Answer::NoEdit, n);
-    let n = row(verb.knows(7) & (on.0 == 0), Answer::RootItem, n);
-    let n = row(verb.knows(6) & f.on, Answer::AlreadyLive, n);
-    let n = row(
-        verb.knows(5) & !(f.on & f.to & f.members),
-        Answer::NamedDead,
-        n,
-    );
-    let n = row(!f.by, Answer::ByDead, n);
-    row(verb.knows(14) & set.is_empty(), Answer::EmptySet, n)
+    verb.row(t.set.is_empty(), Refusal::EmptySet)?;
+    refuse(!f.by, Refusal::ByDead)?;
+    verb.row(!(f.on & f.to & f.members), Refusal::NamedDead)?;
+    verb.row(f.on, Refusal::AlreadyLive)?;
+    verb.row(t.on.0 == 0, Refusal::RootItem)?;
+    verb.row(!f.edits, Refusal::NoEdit)?;
+    verb.row(f.back, Refusal::ShiftBack)?;
+    verb.row(t.right.0 == 0, Refusal::EditRight)?;
+    verb.row(f.past, Refusal::LastPast)?;
+    verb.row(f.full, Refusal::Full)
 }

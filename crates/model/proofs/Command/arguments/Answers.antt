@@ -2,6 +2,7 @@
 use mathlib.Core.Path.{◌≡◌, refl, sym, ap, ◌∙◌, subst}
 use Prim.Native.Nat.{ℕ}
 use Rattle.model.specs.declared.Command.{Command}
+use Rattle.std.specs.Prelude.{Option}
 use Rattle.model.specs.declared.Verb.{Verb}
 use Rattle.model.specs.declared.Edit.{Edit}
 use Rattle.model.specs.declared.Arguments.{Arguments}
@@ -9,11 +10,11 @@ use Rattle.model.specs.Commands.{arguments, arguments_of}
 use Rattle.model.proofs.Command.arguments.Goals as goal
 
 -- what a command names, with the rest as given
-abbrev naming : Command → Verb → Edit → ℕ → ℕ → Arguments
+abbrev naming : Command → Verb → Option Edit → ℕ → ℕ → Arguments
 naming s v e shift set =
     arguments v e (arguments_of s).by (arguments_of s).to (arguments_of s).on (arguments_of s).right (arguments_of s).depth shift set
 
-told : (s c : Command) (v : Verb) (e : Edit) (shift set : ℕ) → s ≡ c → naming c v e shift set ≡ arguments_of c
+told : (s c : Command) (v : Verb) (e : Option Edit) (shift set : ℕ) → s ≡ c → naming c v e shift set ≡ arguments_of c
     → naming s v e shift set ≡ arguments_of s
 told s c v e shift set q h = subst (λ x. naming x v e shift set ≡ arguments_of x) (sym q) h
 
