@@ -6,13 +6,11 @@ use Prim.Native.Nat.{ℕ, ◌+◌, ◌*◌}
 use borrow.Author.Tests.{ne_eqb, eqb-true}
 use lib.ListN.{length}
 use lib.Dec.{eqb}
-use Rattle.model.specs.declared.Item.{Item}
-use Rattle.model.specs.declared.Right.{Right}
-use Rattle.model.specs.declared.Answer.{Answer}
-use Rattle.model.specs.declared.ChainChecked.{ChainChecked}
-use Rattle.model.specs.declared.ChainChecked.TheVariants as chain
-use Rattle.model.specs.Answers.{number_of, answer_for, Found, nothing, chain_number, found_in, found_said, chain_checked_of}
-use Rattle.layouts.specs.declared.admit.CheckAdmission.TheVariants as check
+use Rattle.std.specs.Prelude.{Option, Result, Ok, Err, ⊤}
+use Rattle.model.specs.declared.Question.{Question}
+use Rattle.model.specs.declared.BestChain.{BestChain}
+use Rattle.model.specs.declared.Refusal.{Refusal}
+use Rattle.model.specs.Answers.{refusal_number, number_of, answered, refusal_for, Found, nothing, found_in, found_said}
 use Rattle.layouts.specs.Admission.{check_admission}
 use Rattle.layouts.specs.Layouts.{grant_cells}
 use Rattle.delegation.specs.Loans.{loan_words}
@@ -21,10 +19,9 @@ use Rattle.delegation.specs.Search.{grants_of, found_of, chain_of, height_of, be
 use Rattle.delegation.specs.Picking.{picked}
 use Rattle.delegation.specs.ChainUnit.{chain_in_order, chain_sized, chain_guarded, chain_check_number, chain_found, ChainChecks}
 use Rattle.bits.proofs.Sets.{fst, snd}
-use Rattle.model.proofs.Commands.{question-asked}
 use Rattle.layouts.proofs.Guarding.{guard_passed, check_guard_known}
 use Rattle.layouts.proofs.Admission.{check_admitted}
-use Rattle.model.proofs.Answers.{Known, chain-refused, chain_number_lem, found_said_lem}
+use Rattle.model.proofs.Answers.{refuses, refused_is, found_is, Known, answered_number, found_said_lem}
 
 -- images that may be read
 pub chain_readable : (s : Images) (room : Bool) → chain_guarded s room 0 ≡ 0
@@ -36,24 +33,25 @@ chain_readable s room e =
     (eqb-true _ _ a, eqb-true _ _ b, snd (eqb (length s.grants) grant_cells && eqb (length s.loans) loan_words) room p.0, p.1)
 
 -- ---- a check
-module _ (s : Images) (buffer : List ℕ) (p o r : ℕ) (order : Answer) (e : number_of order ≡ chain_guarded s (eqb (length buffer) 8) 0) where
+module _ (s : Images) (buffer : List ℕ) (p o r : ℕ) (order : Result ⊤ Refusal)
+    (e : number_of order ≡ chain_guarded s (eqb (length buffer) 8) 0) where
   -- 1, 2 or 3
-  pub chain_check_refused : (a : Answer) → check.Refused a ≡ check_admission order p o r
-      → ChainChecks s buffer p o r (chain.Refused a) buffer s
+  pub chain_check_refused : (a : Refusal) → Err a ≡ check_admission order p o r → ChainChecks s buffer p o r (Err a) buffer s
   chain_check_refused a h =
-      let n = check_admitted (chain_sized s (eqb (length buffer) 8)) (chain_in_order s) p o r order e (check.Refused a) h in
-      (chain-refused a _ _ n.0 (λ z. n.1 (n.0 ∙ z)), sym (rw (← n.0, ne_eqb (number_of a) 0 n.1)), refl)
+      let n = check_admitted (chain_sized s (eqb (length buffer) 8)) (chain_in_order s) p o r order e (Err a) h in
+      (refused_is a _ _ n, sym (rw (← n, ne_eqb (refusal_number a) 0 (refuses a))), refl)
 
   -- yes or no
-  pub chain_check_says : (x y : Item) (z : Right) → check.Ready x y z ≡ check_admission order p o r → (a : ChainChecked) (b : List ℕ)
-      → a ≡ found_said (found_of s.grants s.loans (8 * y.0 + z.0) x.0)
-      → b ≡ chain_of s.grants s.loans (8 * y.0 + z.0) x.0
-      → ChainChecks s buffer p o r a b s
-  unfolding chain_checked_of
-  chain_check_says x y z h a b k l =
-      let n = check_admitted (chain_sized s (eqb (length buffer) 8)) (chain_in_order s) p o r order e (check.Ready x y z) h in
-      let i = question-asked p o r x y z n.2 in
-      (k ∙ sym (rw (n.1, ← i.1, ← i.2, ← i.3)), l ∙ sym (rw (n.1, ← i.1, ← i.2, ← i.3)), refl)
+  pub chain_check_says : (q : Question) → Ok q ≡ check_admission order p o r → (a : Option BestChain) (b : List ℕ)
+      → a ≡ found_said (found_of s.grants s.loans (8 * q.on.0 + q.right.0) q.who.0)
+      → b ≡ chain_of s.grants s.loans (8 * q.on.0 + q.right.0) q.who.0
+      → ChainChecks s buffer p o r (Ok a) b s
+  chain_check_says q h a b k l =
+      let n = check_admitted (chain_sized s (eqb (length buffer) 8)) (chain_in_order s) p o r order e (Ok q) h in (
+        ap Ok k ∙ found_is _ _ n.1 ∙ sym (rw (n.1, n.3)),
+        l ∙ sym (rw (n.1, n.3)),
+        refl,
+      )
 
 -- ---- a check's number is some answer's, and what a check found is what its answer tells
 chain_check_known : (s : Images) (buffer : List ℕ) (p o r : ℕ) → Known (chain_check_number s buffer p o r)
@@ -73,23 +71,23 @@ unfolding found_of
 found_none gs t key who = best_none (grants_of gs key) (picked t key) who
 
 chain_found_lem : (s : Images) (buffer : List ℕ) (p o r : ℕ)
-    → found_in (chain_checked_of (chain_check_number s buffer p o r) (chain_found s buffer p o r)) ≡ chain_found s buffer p o r
-unfolding chain_checked_of
+    → found_in (answered (chain_check_number s buffer p o r) (found_said (chain_found s buffer p o r))) ≡ chain_found s buffer p o r
+unfolding answered
 chain_found_lem s buffer p o r =
     go (eqb (chain_check_number s buffer p o r) 0) (found_of s.grants s.loans (8 * o + r) p)
     (found_none s.grants s.loans (8 * o + r) p)
   where
     go : (b : Bool) (f : Found) → (f.yes ≡ false → f ≡ nothing)
-        → found_in (cond b (found_said (cond b f nothing)) (chain.Refused (answer_for (chain_check_number s buffer p o r)))) ≡ cond b f nothing
+        → found_in (cond b (Ok (found_said (cond b f nothing))) (Err (refusal_for (chain_check_number s buffer p o r)))) ≡ cond b f nothing
     go true f h = found_said_lem f h
     go false f h = refl
 
 -- what a check's answer tells: its number, and what was found
-pub chain-told : (s : Images) (buffer : List ℕ) (p o r : ℕ) (a : ChainChecked)
-    → a ≡ chain_checked_of (chain_check_number s buffer p o r) (chain_found s buffer p o r)
-    → (chain_number a ≡ chain_check_number s buffer p o r) × (found_in a ≡ chain_found s buffer p o r)
+pub chain-told : (s : Images) (buffer : List ℕ) (p o r : ℕ) (a : Result (Option BestChain) Refusal)
+    → a ≡ answered (chain_check_number s buffer p o r) (found_said (chain_found s buffer p o r))
+    → (number_of a ≡ chain_check_number s buffer p o r) × (found_in a ≡ chain_found s buffer p o r)
 chain-told s buffer p o r a e = (
-  ap chain_number e ∙ chain_number_lem _ (chain_found s buffer p o r) (chain_check_known s buffer p o r),
+  ap number_of e ∙ answered_number _ (found_said (chain_found s buffer p o r)) (chain_check_known s buffer p o r),
   ap found_in e
       ∙ chain_found_lem s buffer p o r,
 )

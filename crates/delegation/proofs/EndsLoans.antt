@@ -26,7 +26,7 @@ use Rattle.delegation.specs.Images.{Images, images, standing_in, ImageChain}
 use Rattle.delegation.specs.ChainUnit.{chain_unit, chain_stands, chain_lent, chain_guard, chain_sized, chain_in_order, chain_facts, chain_dropped, chain_after, chain_count, chain_check_number, chain_found, NobodyGains}
 use Rattle.bits.proofs.Sets.{by_cases, fst, snd, both, all_true, any_cong, any_kept, any_fewer, any_less, any_gone, any_same}
 use Rattle.model.proofs.Commands.{small}
-use Rattle.model.proofs.Answers.{result_either}
+use Rattle.model.proofs.Answers.{effect_either}
 use Rattle.model.proofs.Chain.{chain-map}
 use Rattle.model.proofs.Invariant.{passed, accepted}
 use Rattle.model.proofs.EndsLoans.{holds_on}
@@ -210,7 +210,7 @@ withdrawn_fewer x p o r h t = stands_fewer_all (of_each_depth p o r) x h t
 pub either_way : (C : Images → Type 0) (s : Images) (c : Command) → C s → (answer_of chain_unit s c ≡ 0 → C (step_of chain_unit s c))
     → C (step_of chain_unit s c)
 either_way C s c same done =
-    result_either C s (chain_after s (arguments_of c)) (answer_of chain_unit s c) (chain_count s (arguments_of c).verb) same
+    effect_either C s (chain_after s (arguments_of c)) (answer_of chain_unit s c) (chain_count s (arguments_of c).verb) same
     (λ e. subst C (stepped s c e) (done e))
 
 -- the chains after a command were chains before

@@ -26,7 +26,7 @@ use Rattle.delegation.specs.Picking.{picks, picked}
 use Rattle.delegation.specs.Search.{found_of}
 use Rattle.delegation.specs.ChainUnit.{chain_unit, chain_sized, chain_in_order, chain_facts, chain_at, SameAnswers}
 use Rattle.bits.proofs.Sets.{by_cases, fst, snd, both, all_true, keep_cong, keep-keep, count_kept, count_gone}
-use Rattle.model.proofs.Answers.{result-refused, result-counted}
+use Rattle.model.proofs.Answers.{effect-refused, effect-counted}
 use Rattle.model.proofs.Chain.{chain-map}
 use Rattle.model.proofs.Invariant.{passed}
 use Rattle.model.proofs.Shifts.{earlier_carries}
@@ -159,7 +159,7 @@ module _ (s : Images) (by : ℕ) where
       → answer_of chain_unit s (Lend lender to on right depth until) ≡ 10
       → answer_of chain_unit (step_of chain_unit s (Sweep by)) (Lend lender to on right depth until) ≡ 0
   room-again h lender to on right depth until e =
-      let a = result-counted s swept (answer_of chain_unit s (Sweep by)) (count past (used s.loans)) h in
+      let a = effect-counted s swept (answer_of chain_unit s (Sweep by)) (count past (used s.loans)) h in
       let c : counted_of chain_unit s (Sweep by) ≡ count past (used s.loans) = rw a in
       let few : count_of left + 1 ≤ most_loans
       = omega (arith, sum_of a, few_used (live a) s.loans (long a) (order a), c, h, count_left a) in
@@ -177,7 +177,7 @@ module _ (s : Images) (by : ℕ) where
   pub chain_sweep : Sweeps (answer_of chain_unit) (counted_of chain_unit) (step_of chain_unit) (λ (x : Images). used x.loans) last_shift
       (λ (x : Images). shift_in x.loans) chain_at ImageChain s by
   chain_sweep = record {
-    nothing = result-refused s swept (answer_of chain_unit s (Sweep by)) (count past (used s.loans));
+    nothing = effect-refused s swept (answer_of chain_unit s (Sweep by)) (count past (used s.loans));
     left = λ e. ap (λ (x : Images). used x.loans) (after e) ∙ left-used e;
     many = λ e. rw e;
     sum =

@@ -1,15 +1,15 @@
 -- The chain unit: its ten commands, and its check.
-use Rattle.std.specs.Prelude.{◌≡◌, Bool, true, not, ◌&&◌, cond, List, [], ◌∷◌, ℕ, ◌+◌, ◌*◌, ◌≤◌, length, eqb, leb, ltb}
+use Rattle.std.specs.Prelude.{◌≡◌, Bool, true, not, ◌&&◌, cond, Option, Result, ⊤, List, [], ◌∷◌, ℕ, ◌+◌, ◌*◌, ◌≤◌, length, eqb, leb, ltb}
 use Rattle.model.specs.declared.Arguments.{Arguments}
 use Rattle.model.specs.declared.Facts.{Facts}
 use Rattle.model.specs.declared.Verb.{Verb}
 use Rattle.model.specs.declared.Verb.TheVariants as verb
-use Rattle.model.specs.declared.Answer.{Answer}
-use Rattle.model.specs.declared.ChainChecked.{ChainChecked}
+use Rattle.model.specs.declared.Refusal.{Refusal}
+use Rattle.model.specs.declared.BestChain.{BestChain}
 use Rattle.bits.specs.Sets.{any, all, count}
 use Rattle.layouts.specs.Machine.{Machine, guarded_by}
 use Rattle.model.specs.Commands.{sweeps, members_of, most_loans}
-use Rattle.model.specs.Answers.{Found, asked, Numbered, chain_checked_of, nothing, ◌when◌else◌}
+use Rattle.model.specs.Answers.{Found, asked, Numbered, answered, found_said, nothing, ◌when◌else◌}
 use Rattle.model.specs.Journal.{Grant, Loan, grant, of_each_depth, is_past, loan_in}
 use Rattle.layouts.specs.Layouts.{grant_bytes, grant_cells, live_in, held, is_in_order, created, deleted, allowed, allowed_set, dropped, fresh_image}
 use Rattle.delegation.specs.Loans.{word_of, word_names, word_from, word_dated, word_past, loan_words, count_of, shift_in, used, loans_image, loans_with, loans_kept, loans_at, fresh_header, loans_in_order}
@@ -108,8 +108,8 @@ chain_unit = record {
 }
 
 -- answer r and images x of a look at the images alone, which knows 1 and 2
-abbrev pub ChainInspects : Images → Answer → Images → Type 0
-ChainInspects s r x = Numbered r (chain_guarded s true 0) × (x ≡ s)
+abbrev pub ChainInspects : Images → Result ⊤ Refusal → Images → Type 0
+ChainInspects s r x = Numbered r (chain_guarded s true 0) tt × (x ≡ s)
 
 -- ---- the check of person p on item o, right r, with a chain buffer
 abbrev pub chain_check_number : Images → List ℕ → ℕ → ℕ → ℕ → ℕ
@@ -128,9 +128,9 @@ abbrev pub chain_left : Images → List ℕ → ℕ → ℕ → ℕ → Images
 chain_left s buffer p o r = s
 
 -- answer a, buffer b and images x of a check: its contract
-abbrev pub ChainChecks : Images → List ℕ → ℕ → ℕ → ℕ → ChainChecked → List ℕ → Images → Type 0
+abbrev pub ChainChecks : Images → List ℕ → ℕ → ℕ → ℕ → Result (Option BestChain) Refusal → List ℕ → Images → Type 0
 ChainChecks s buffer p o r a b x =
-    (a ≡ chain_checked_of (chain_check_number s buffer p o r) (chain_found s buffer p o r)) × (b ≡ chain_buffer s buffer p o r)
+    (a ≡ answered (chain_check_number s buffer p o r) (found_said (chain_found s buffer p o r))) × (b ≡ chain_buffer s buffer p o r)
     × (x ≡ chain_left s buffer p o r)
 
 -- from images s to images x nobody goes from no to yes, and nobody's depth rises: whatever is asked, with whatever chain buffer
@@ -160,5 +160,5 @@ abbrev pub chain_fresh_of : Images → Images
 chain_fresh_of s = cond (eqb (chain_fresh_number s) 0) chain_fresh s
 
 -- answer r and images x of making a fresh unit
-abbrev pub ChainFreshens : Images → Answer → Images → Type 0
-ChainFreshens s r x = Numbered r (chain_fresh_number s) × (x ≡ chain_fresh_of s)
+abbrev pub ChainFreshens : Images → Result ⊤ Refusal → Images → Type 0
+ChainFreshens s r x = Numbered r (chain_fresh_number s) tt × (x ≡ chain_fresh_of s)

@@ -4,7 +4,7 @@ ghost use Rattle.std.specs.Prelude.{◌≡◌, ◌*◌, ◌%◌};
 ghost use Rattle.model.specs.Journal.{loan, carries};
 ghost use Rattle.delegation.specs.Loans.{word_of, cut, last_shift, lender, loan_item, loan_right, borrower, loan_depth, key_of, key_for, header_of, header_word, recounted, moved_to, fresh_header};
 
-use model::{Depth, DepthRead, Item, ItemRead, Right, RightRead, Shift, ShiftRead};
+use model::{Depth, Item, Right, Shift};
 
 // Word 0 of a loans image, its upper and its lower half: the present shift, and how many loans stand.
 #[derive(Clone, Copy)]
@@ -94,41 +94,25 @@ pub fn carries(now: Shift, last: Shift) -> bool
 fn item_in(n: u32) -> Item
     ensures { result.0 ≡ n % 64 }
 {
-    let kind = Item::read(n % 64);
-    match kind {
-        ItemRead::Within(item) => item,
-        ItemRead::Beyond => Item::root(),
-    }
+    Item::read(n % 64).unwrap()
 }
 
 fn right_in(n: u32) -> Right
     ensures { result.0 ≡ n % 8 }
 {
-    let kind = Right::read(n % 8);
-    match kind {
-        RightRead::Within(right) => right,
-        RightRead::Beyond => Right::edit(),
-    }
+    Right::read(n % 8).unwrap()
 }
 
 fn depth_in(n: u32) -> Depth
     ensures { result.0 ≡ n % 8 }
 {
-    let kind = Depth::read(n % 8);
-    match kind {
-        DepthRead::Within(depth) => depth,
-        DepthRead::Beyond => Depth::zero(),
-    }
+    Depth::read(n % 8).unwrap()
 }
 
 fn shift_in(n: u32) -> Shift
     ensures { result.0 ≡ n % 256 }
 {
-    let kind = Shift::read(n % 256);
-    match kind {
-        ShiftRead::Within(shift) => shift,
-        ShiftRead::Beyond => Shift::first(),
-    }
+    Shift::read(n % 256).unwrap()
 }
 
 pub fn last(w: u32) -> Shift

@@ -9,10 +9,11 @@ use lib.ListN.{length, get_or}
 use lib.Dec.{eqb, ltb, leb}
 use Rattle.bits.specs.Bits.{of_bits}
 use Rattle.model.specs.Commands.{depths, items, right_depth}
-use Rattle.model.specs.declared.Answer.{Answer}
-use Rattle.model.specs.declared.Answer.TheVariants as is
-use Rattle.model.specs.Answers.{asked, number_of}
-use Rattle.model.proofs.Answers.{numbered}
+use Rattle.std.specs.Prelude.{Ok, Err}
+use Rattle.model.specs.declared.Refusal.{Refusal}
+use Rattle.model.specs.declared.Refusal.TheVariants as is
+use Rattle.model.specs.Answers.{asked, refusal_number}
+use Rattle.model.proofs.Answers.{numbered, refused, refuses, found}
 use Rattle.model.specs.Journal.{Grant, Journal, grant, lives}
 use Rattle.bits.specs.Cells.{at}
 use Rattle.layouts.specs.Layouts.{Layout, list_words, row_bytes, lists, rows, live_in, grant_bit, build, held, is_in_order, check_number, check_yes, guarded}
@@ -158,23 +159,22 @@ convert_of_lem L M F G j v =
 -- ---- the ends of a conversion of s, of layout L, into the buffer t
 module _ (L M : Layout) (s t : List ℕ) where
   -- t has a wrong length
-  pub convert-short : (length t ≡ M.cells → ⊥) → Converts L M s t is.WrongLength s t
-  convert-short h = rw (ne_eqb (length t) M.cells h, and-false (eqb (length s) L.cells)) (numbered is.WrongLength 1 refl, refl, refl)
+  pub convert-short : (length t ≡ M.cells → ⊥) → Converts L M s t (Err is.WrongLength) s t
+  convert-short h = rw (ne_eqb (length t) M.cells h, and-false (eqb (length s) L.cells)) (numbered (Err is.WrongLength) 1 refl, refl, refl)
 
   judged : length t ≡ M.cells → convert_number L M s t ≡ guarded L s 0
   judged l = rw (eq-eqb (length t) M.cells l, and-true (eqb (length s) L.cells))
 
   -- s has, or is not in order
-  pub convert_stops : (r : Answer) → length t ≡ M.cells → number_of r ≡ guarded L s 0 → (number_of r ≡ 0 → ⊥) → Converts L M s t r s t
-  convert_stops r l e h =
-      let q : number_of r ≡ convert_number L M s t = e ∙ sym (judged l) in
-      (numbered r _ q, refl, rw (← q, ne_eqb (number_of r) 0 h))
+  pub convert_stops : (r : Refusal) → length t ≡ M.cells → refusal_number r ≡ guarded L s 0 → Converts L M s t (Err r) s t
+  convert_stops r l e =
+      let q : refusal_number r ≡ convert_number L M s t = e ∙ sym (judged l) in
+      (refused r _ _ q, refl, rw (← q, ne_eqb (refusal_number r) 0 (refuses r)))
 
-  pub convert_done : (r : Answer) (x : List ℕ) → length t ≡ M.cells → number_of r ≡ guarded L s 0 → number_of r ≡ 0 → x ≡ convert L M s
-      → Converts L M s t r s x
-  convert_done r x l e z q =
-      let k : number_of r ≡ convert_number L M s t = e ∙ sym (judged l) in
-      (numbered r _ k, refl, q ∙ sym (rw (← k, z)))
+  pub convert_done : (x : List ℕ) → length t ≡ M.cells → 0 ≡ guarded L s 0 → x ≡ convert L M s → Converts L M s t (Ok tt) s x
+  convert_done x l e q =
+      let k : 0 ≡ convert_number L M s t = e ∙ sym (judged l) in
+      (found _ _ (sym k), refl, q ∙ sym (rw (← k)))
 
 -- what a conversion that is not refused was given
 convert-free : (L M : Layout) (s t : List ℕ) → convert_number L M s t ≡ 0 → (length s ≡ L.cells) × (length t ≡ M.cells)

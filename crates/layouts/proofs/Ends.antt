@@ -9,56 +9,51 @@ use lib.Dec.{eqb}
 use Rattle.model.specs.declared.Command.{Command}
 use Rattle.model.specs.declared.Arguments.{Arguments}
 use Rattle.model.specs.declared.Facts.{Facts}
-use Rattle.model.specs.declared.Answer.{Answer}
-use Rattle.model.specs.declared.Answer.TheVariants as is
-use Rattle.model.specs.declared.Checked.{Checked}
-use Rattle.model.specs.declared.Offered.TheVariants as offered
+use Rattle.std.specs.Prelude.{Some, None, Result, Ok, Err, ⊤}
+use Rattle.model.specs.declared.Refusal.{Refusal}
+use Rattle.model.specs.declared.Refusal.TheVariants as is
 use Rattle.bits.specs.Sets.{all}
 use Rattle.model.specs.Commands.{arguments_of, members_of}
 use Rattle.layouts.specs.Machine.{Machine, answer_of, judged_in, Judged, Ran, Offers}
-use Rattle.model.specs.Answers.{table, number_of, answer_for, refusal, Returns, checked_number, checked_yes}
+use Rattle.model.specs.Answers.{table, refusal_number, number_of, answered, answer_for, Returns, checked_yes}
 use Rattle.layouts.specs.Layouts.{Layout, is_in_order, guarded, facts_of, flat_unit, live_in, held, check_number, check_yes, Checks, Inspects, Freshens, fresh_image}
 use Rattle.layouts.specs.Subjects.{subjects_of, Tells}
-use Rattle.model.proofs.Answers.{numbered, Known, number_for, table-known, answer-known, checked_number_lem, checked_yes_lem}
+use Rattle.model.proofs.Answers.{numbered, refuses, refused, found, found_is, Known, answered_number, table-known, answer-known, checked_yes_lem}
 use Rattle.layouts.proofs.Guarding.{guard_passed, guard_known, check_guard_known}
 
 -- ---- a command, in any machine
 module _ {S : Type 0} (M : Machine S) (s : S) where
-  module _ (a : Arguments) where
-    pub judged_number : (f : Facts) (r : Answer) → r ≡ answer_for (table f a) → number_of r ≡ table f a
-    judged_number f r p = ap number_of p ∙ number_for (table f a) (table-known f a)
+  module _ (a : Arguments) (f : Facts) (e : f ≡ M.facts s a) where
+    judged_number : (r : Result ⊤ Refusal) → r ≡ answer_for (table f a) → number_of r ≡ table (M.facts s a) a
+    judged_number r p = ap number_of p ∙ answered_number (table f a) tt (table-known f a) ∙ ap (λ g. table g a) e
 
     -- where the table refuses: the state stays, and nothing is counted
-    pub counting_stops : (f : Facts) (r : Answer) (m : ℕ) → f ≡ M.facts s a → r ≡ answer_for (table f a) → m ≡ number_of r → (m ≡ 0 → ⊥)
-        → Returns (judged_in M s a) (refusal r) s
-    counting_stops f r m e p q h =
-        let t : number_of r ≡ table (M.facts s a) a = judged_number f r p ∙ ap (λ g. table g a) e in
-        let n : eqb (number_of r) 0 ≡ false = ne_eqb (number_of r) 0 (λ z. h (q ∙ z)) in
-        (numbered r _ t, rw (← t, n), rw (← t, n))
+    pub counting_stops : (r : Refusal) → Err r ≡ answer_for (table f a) → Returns (judged_in M s a) (Err r) s
+    counting_stops r p =
+        let t : refusal_number r ≡ table (M.facts s a) a = judged_number (Err r) p in
+        let n : eqb (refusal_number r) 0 ≡ false = ne_eqb (refusal_number r) 0 (refuses r) in
+        (refused r _ _ t, rw (← t, n))
 
     -- where it does not: the command is done
-    pub counting_goes : (f : Facts) (r : Answer) (m k : ℕ) (x : S) → f ≡ M.facts s a → r ≡ answer_for (table f a) → m ≡ number_of r
-        → m ≡ 0 → x ≡ M.after s a → k ≡ M.counts s a → Returns (judged_in M s a) (record { answer = r; count = k }) x
-    counting_goes f r m k x e p q h u v =
-        let t : number_of r ≡ table (M.facts s a) a = judged_number f r p ∙ ap (λ g. table g a) e in
-        let n : eqb (number_of r) 0 ≡ true = eq-eqb (number_of r) 0 (sym q ∙ h) in
-        (numbered r _ t, v ∙ sym (rw (← t, n)), u ∙ sym (rw (← t, n)))
+    pub counting_goes : (z : ⊤) (k : ℕ) (x : S) → Ok z ≡ answer_for (table f a) → x ≡ M.after s a → k ≡ M.counts s a
+        → Returns (judged_in M s a) (Ok k) x
+    counting_goes z k x p u v =
+        let t : 0 ≡ table (M.facts s a) a = judged_number (Ok z) p in
+        ((t, found_is _ _ (sym t) ∙ ap (answered _) (v ∙ sym (rw (← t)))), u ∙ sym (rw (← t)))
 
     -- the same of a unit that counts nothing
-    pub judged_stops : (f : Facts) (r : Answer) (m : ℕ) → f ≡ M.facts s a → r ≡ answer_for (table f a) → m ≡ number_of r → (m ≡ 0 → ⊥)
-        → Judged M s a (number_of r) s
-    judged_stops f r m e p q h = let k = counting_stops f r m e p q h in (k.0.0, k.2)
+    pub judged_stops : (r : Refusal) → Err r ≡ answer_for (table f a) → Judged M s a (refusal_number r) s
+    judged_stops r p = let k = counting_stops r p in (k.0.0, k.1)
 
-    pub judged_goes : (f : Facts) (r : Answer) (m : ℕ) (x : S) → f ≡ M.facts s a → r ≡ answer_for (table f a) → m ≡ number_of r → m ≡ 0
-        → x ≡ M.after s a → Judged M s a (number_of r) x
-    judged_goes f r m x e p q h u = let k = counting_goes f r m (M.counts s a) x e p q h u refl in (k.0.0, k.2)
+    pub judged_goes : (z : ⊤) (x : S) → Ok z ≡ answer_for (table f a) → x ≡ M.after s a → Judged M s a 0 x
+    judged_goes z x p u = let k = counting_goes z (M.counts s a) x p u refl in (k.0.0, k.1)
 
   module _ (c : Command) where
     -- a command that is offered
-    pub offers_ran : (r : Answer) (x : S) → M.has c ≡ true → Ran M s c r x → Offers M s c (offered.Answered r) x
-    offers_ran r x h k = rw h (ap offered.Answered k.0.1, k.1)
+    pub offers_ran : (r : Result ⊤ Refusal) (x : S) → M.has c ≡ true → Ran M s c r x → Offers M s c (Some r) x
+    offers_ran r x h k = rw h (ap Some k.0.1, k.1)
 
-    pub offers_passed : M.has c ≡ false → Offers M s c offered.Passed s
+    pub offers_passed : M.has c ≡ false → Offers M s c None s
     offers_passed h = rw h (refl, refl)
 
 -- ---- any layout
@@ -77,23 +72,22 @@ module _ (L : Layout) (s : List ℕ) where
   order_done l e = rw (eq-eqb (length s) L.cells l, e)
 
   -- numbers 1 and 2 alone
-  pub inspected : (r : Answer) → number_of r ≡ guarded L s 0 → Inspects L s r s
+  pub inspected : (r : Result ⊤ Refusal) → number_of r ≡ guarded L s 0 → Inspects L s r s
   inspected r e = (numbered r _ e, refl)
 
   -- a fresh unit: number 1, or the fresh image
-  pub fresh-length : (length s ≡ L.cells → ⊥) → Freshens L s is.WrongLength s
-  fresh-length h = rw (ne_eqb (length s) L.cells h) (numbered is.WrongLength 1 refl, refl)
+  pub fresh-length : (length s ≡ L.cells → ⊥) → Freshens L s (Err is.WrongLength) s
+  fresh-length h = rw (ne_eqb (length s) L.cells h) (numbered (Err is.WrongLength) 1 refl, refl)
 
-  pub fresh_done : (x : List ℕ) → length s ≡ L.cells → x ≡ fresh_image L → Freshens L s is.Done x
-  fresh_done x l e = rw (eq-eqb (length s) L.cells l) (numbered is.Done 0 refl, e)
+  pub fresh_done : (x : List ℕ) → length s ≡ L.cells → x ≡ fresh_image L → Freshens L s (Ok tt) x
+  fresh_done x l e = rw (eq-eqb (length s) L.cells l) (numbered (Ok tt) 0 refl, e)
 
   -- the subjects: number 1 or 2, or the persons p
-  pub subjects_stop : (r : Answer) → number_of r ≡ guarded L s 0 → (number_of r ≡ 0 → ⊥) → Tells L s (record { answer = r; persons = 0 }) s
-  subjects_stop r e h = (numbered r _ e, sym (rw (← e, ne_eqb (number_of r) 0 h)), refl)
+  pub subjects_stop : (r : Refusal) → refusal_number r ≡ guarded L s 0 → Tells L s (Err r) s
+  subjects_stop r e = (refused r _ _ e, refl)
 
-  pub subjects_are : (r : Answer) (p : ℕ) → number_of r ≡ guarded L s 0 → number_of r ≡ 0 → p ≡ subjects_of L s
-      → Tells L s (record { answer = r; persons = p }) s
-  subjects_are r p e z q = (numbered r _ e, q ∙ sym (rw (← e, z)), refl)
+  pub subjects_are : (p : ℕ) → 0 ≡ guarded L s 0 → p ≡ subjects_of L s → Tells L s (Ok p) s
+  subjects_are p e q = (rw q (found _ _ (sym e)), refl)
 
   pub facts-are : (a : Arguments) (r : ℕ) (x y z m w : Bool) → r ≡ 0
       → x ≡ live_in L s a.by → y ≡ live_in L s a.on → z ≡ live_in L s a.to
@@ -109,11 +103,11 @@ pub check_known : (L : Layout) (s : List ℕ) (p o r : ℕ) → Known (check_num
 check_known L s p o r = check_guard_known (eqb (length s) L.cells) (is_in_order L s) p o r
 
 -- what a check's answer tells: its number, and yes or no
-pub told : (L : Layout) (s : List ℕ) (p o r : ℕ) (a : Checked) (x : List ℕ) → Checks L s p o r a x
-    → (checked_number a ≡ check_number L s p o r) × (checked_yes a ≡ check_yes L s p o r) × (x ≡ s)
+pub told : (L : Layout) (s : List ℕ) (p o r : ℕ) (a : Result Bool Refusal) (x : List ℕ) → Checks L s p o r a x
+    → (number_of a ≡ check_number L s p o r) × (checked_yes a ≡ check_yes L s p o r) × (x ≡ s)
 told L s p o r a x h =
     let n = check_number L s p o r in (
-      ap checked_number h.0 ∙ checked_number_lem n (check_yes L s p o r) (check_known L s p o r),
+      ap number_of h.0 ∙ answered_number n (check_yes L s p o r) (check_known L s p o r),
       ap checked_yes h.0 ∙ checked_yes_lem n (check_yes L s p o r) ∙ again (eqb n 0) (held L s p o r),
       h.1,
     )

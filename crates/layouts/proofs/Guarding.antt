@@ -3,7 +3,8 @@
 use mathlib.Core.Path.{◌≡◌, refl}
 use mathlib.Core.Bool.{Bool, true, false, not}
 use Prim.Native.Nat.{ℕ}
-use Rattle.model.specs.declared.Answer.TheVariants as is
+use Rattle.std.specs.Prelude.{Err}
+use Rattle.model.specs.declared.Refusal.TheVariants as is
 use Rattle.model.specs.Answers.{asked}
 use Rattle.layouts.specs.Machine.{guarded_by}
 use Rattle.model.proofs.Answers.{Known, known-row, asked-known}
@@ -25,8 +26,8 @@ module _ (a b : Bool) where
 
   pub guard_known : (n : ℕ) → Known n → Known (guarded_by a b n)
   guard_known n k =
-      known-row (not a) 1 _ (record { answer = is.WrongLength; number = refl })
-      (known-row (not b) 2 _ (record { answer = is.NotInOrder; number = refl }) k)
+      known-row (not a) 1 _ (record { answer = Err is.WrongLength; number = refl })
+      (known-row (not b) 2 _ (record { answer = Err is.NotInOrder; number = refl }) k)
 
   -- the number of a check
   pub check_guard_known : (p o r : ℕ) → Known (guarded_by a b (asked p o r))

@@ -1,25 +1,21 @@
 -- Numbers 1 to 3 of a command and of a check, before the table of answers and before any image is asked.
-use Rattle.std.specs.Prelude.{Bool, ◌&&◌, cond, ℕ, eqb}
+use Rattle.std.specs.Prelude.{Option, Result, Ok, Err, ⊤, ok_or, ℕ}
 use Rattle.model.specs.declared.Command.{Command}
-use Rattle.model.specs.declared.Answer.{Answer}
-use Rattle.model.specs.declared.Answer.TheVariants as is
-use Rattle.model.specs.Commands.{arguments_of, typed_of, fits, items, right_depth}
-use Rattle.model.specs.Answers.{number_of}
-use Rattle.layouts.specs.declared.admit.CommandAdmission.{CommandAdmission}
-use Rattle.layouts.specs.declared.admit.CommandAdmission.TheVariants as command
-use Rattle.layouts.specs.declared.admit.CheckAdmission.{CheckAdmission}
-use Rattle.layouts.specs.declared.admit.CheckAdmission.TheVariants as check
+use Rattle.model.specs.declared.Typed.{Typed}
+use Rattle.model.specs.declared.Question.{Question}
+use Rattle.model.specs.declared.Refusal.{Refusal}
+use Rattle.model.specs.declared.Refusal.TheVariants as is
+use Rattle.model.specs.Commands.{arguments_of, within_of, question_of}
 
 -- 'The lowest number that applies is given': a refusal by order, which is what 1 and 2 say, then by 3 where a limit is passed
-abbrev pub admission : {A : Type 0} → Answer → Bool → (Answer → A) → A → A
-admission order within refused ready = cond (eqb (number_of order) 0) (cond within ready (refused is.OutOfRange)) (refused order)
+abbrev pub admission : {A : Type 0} → Result ⊤ Refusal → Option A → Result A Refusal
+admission (Ok x) within = ok_or within is.OutOfRange
+admission (Err r) within = Err r
 
 -- of a command: 'an item above 63, right above 7 or depth above 7' and 'a shift above 255' are 3
-abbrev pub command_admission : Answer → Command → CommandAdmission
-command_admission order c = admission order (fits (arguments_of c)) command.Refused (command.Ready (typed_of (arguments_of c)))
+abbrev pub command_admission : Result ⊤ Refusal → Command → Result Typed Refusal
+command_admission order c = admission order (within_of (arguments_of c))
 
 -- 'The check knows 1, 2, 3'
-abbrev pub check_admission : Answer → ℕ → ℕ → ℕ → CheckAdmission
-check_admission order who on right =
-    admission order (items who on && right_depth right 0) check.Refused
-    (check.Ready (record { 0 = who }) (record { 0 = on }) (record { 0 = right }))
+abbrev pub check_admission : Result ⊤ Refusal → ℕ → ℕ → ℕ → Result Question Refusal
+check_admission order who on right = admission order (question_of who on right)

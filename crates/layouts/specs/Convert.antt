@@ -1,6 +1,6 @@
 -- 'Lists turn into rows and rows into lists, by images': the same live set and grants in another layout.
-use Rattle.std.specs.Prelude.{◌≡◌, not, ◌&&◌, cond, List, ℕ, length, eqb}
-use Rattle.model.specs.declared.Answer.{Answer}
+use Rattle.std.specs.Prelude.{◌≡◌, not, ◌&&◌, cond, List, Result, ⊤, ℕ, length, eqb}
+use Rattle.model.specs.declared.Refusal.{Refusal}
 use Rattle.model.specs.Answers.{Numbered, ◌when◌else◌}
 use Rattle.model.specs.Journal.{grant}
 use Rattle.layouts.specs.Layouts.{Layout, live_in, grant_bit, build, is_in_order}
@@ -20,5 +20,5 @@ abbrev pub convert_of : Layout → Layout → List ℕ → List ℕ → List ℕ
 convert_of L M s t = cond (eqb (convert_number L M s t) 0) (convert L M s) t
 
 -- answer r, and what both buffers hold after: the contract of every conversion
-abbrev pub Converts : Layout → Layout → List ℕ → List ℕ → Answer → List ℕ → List ℕ → Type 0
-Converts L M s t r x y = Numbered r (convert_number L M s t) × (x ≡ s) × (y ≡ convert_of L M s t)
+abbrev pub Converts : Layout → Layout → List ℕ → List ℕ → Result ⊤ Refusal → List ℕ → List ℕ → Type 0
+Converts L M s t r x y = Numbered r (convert_number L M s t) tt × (x ≡ s) × (y ≡ convert_of L M s t)

@@ -1,16 +1,15 @@
 -- Lists, rows and the grants of a chain unit: one theory for all three images.
 -- An image begins with the live set (document 01's 'roll'), bits 0 to 63; bit 64 + k is place k, and a layout says which grant has
 -- which place. The three images differ in their layout alone.
-use Rattle.std.specs.Prelude.{◌≡◌, Bool, false, not, ◌&&◌, ◌||◌, cond, List, [], ◌∷◌, ℕ, ◌+◌, ◌-◌, ◌*◌, ◌/◌, ◌%◌, length, eqb, ltb}
+use Rattle.std.specs.Prelude.{◌≡◌, Bool, false, not, ◌&&◌, ◌||◌, cond, Option, Some, None, Result, ⊤, List, [], ◌∷◌, ℕ, ◌+◌, ◌-◌, ◌*◌, ◌/◌, ◌%◌, length, eqb, ltb}
 use Rattle.model.specs.declared.Edit.{Edit}
 use Rattle.model.specs.declared.Edit.TheVariants as edit
 use Rattle.model.specs.declared.Arguments.{Arguments}
 use Rattle.model.specs.declared.Facts.{Facts}
-use Rattle.model.specs.declared.Checked.{Checked}
-use Rattle.model.specs.declared.Answer.{Answer}
+use Rattle.model.specs.declared.Refusal.{Refusal}
 use Rattle.bits.specs.Sets.{any, all, all_below}
 use Rattle.model.specs.Commands.{members_of, depths}
-use Rattle.model.specs.Answers.{asked, Numbered, checked_of, flat, ◌when◌else◌}
+use Rattle.model.specs.Answers.{asked, Numbered, answered, flat, ◌when◌else◌}
 use Rattle.layouts.specs.Machine.{Machine, guarded_by}
 use Rattle.model.specs.Journal.{Grant, grant, of_each_depth}
 use Rattle.bits.specs.Cells.{at, image}
@@ -145,13 +144,13 @@ module _ (L : Layout) where
   withdrawn s p o r = dropped_all s (of_each_depth p o r)
 
   -- the image after an accepted command
-  abbrev pub edited : List ℕ → Arguments → Edit → List ℕ
-  edited s a edit.Create = created s a.by a.on
-  edited s a edit.Delete = deleted s a.on
-  edited s a edit.Allow = allowed s (grant a.to a.on a.right a.depth)
-  edited s a edit.Withdraw = withdrawn s a.to a.on a.right
-  edited s a edit.AllowSet = allowed_set s a.set a.on a.right a.depth
-  edited s a edit.Nothing = s
+  abbrev pub edited : List ℕ → Arguments → Option Edit → List ℕ
+  edited s a (Some edit.Create) = created s a.by a.on
+  edited s a (Some edit.Delete) = deleted s a.on
+  edited s a (Some edit.Allow) = allowed s (grant a.to a.on a.right a.depth)
+  edited s a (Some edit.Withdraw) = withdrawn s a.to a.on a.right
+  edited s a (Some edit.AllowSet) = allowed_set s a.set a.on a.right a.depth
+  edited s a None = s
 
   -- by the change that its arguments name
   abbrev pub after : List ℕ → Arguments → List ℕ
@@ -169,8 +168,8 @@ module _ (L : Layout) where
   }
 
   -- answer r and image x of a look at the image alone, which knows 1 and 2
-  abbrev pub Inspects : List ℕ → Answer → List ℕ → Type 0
-  Inspects s r x = Numbered r (guarded s 0) × (x ≡ s)
+  abbrev pub Inspects : List ℕ → Result ⊤ Refusal → List ℕ → Type 0
+  Inspects s r x = Numbered r (guarded s 0) tt × (x ≡ s)
 
   -- the check's number
   abbrev pub check_number : List ℕ → ℕ → ℕ → ℕ → ℕ
@@ -185,8 +184,8 @@ module _ (L : Layout) where
   check_left s p o r = s
 
   -- answer a and image x of a check: its contract
-  abbrev pub Checks : List ℕ → ℕ → ℕ → ℕ → Checked → List ℕ → Type 0
-  Checks s p o r a x = (a ≡ checked_of (check_number s p o r) (check_yes s p o r)) × (x ≡ check_left s p o r)
+  abbrev pub Checks : List ℕ → ℕ → ℕ → ℕ → Result Bool Refusal → List ℕ → Type 0
+  Checks s p o r a x = (a ≡ answered (check_number s p o r) (check_yes s p o r)) × (x ≡ check_left s p o r)
 
   -- the image of a fresh unit: item 0 lives, with an edit grant on itself
   unfoldable pub fresh_image : List ℕ
@@ -201,5 +200,5 @@ module _ (L : Layout) where
   fresh_of s = cond (eqb (fresh_number s) 0) fresh_image s
 
   -- answer r and image x of making a fresh unit
-  abbrev pub Freshens : List ℕ → Answer → List ℕ → Type 0
-  Freshens s r x = Numbered r (fresh_number s) × (x ≡ fresh_of s)
+  abbrev pub Freshens : List ℕ → Result ⊤ Refusal → List ℕ → Type 0
+  Freshens s r x = Numbered r (fresh_number s) tt × (x ≡ fresh_of s)

@@ -1,8 +1,8 @@
 -- The subjects of a unit: 'the persons with at least one grant, as a 64-bit number, bit i for item i' (document 01's 'holder roll').
 -- 002's own formulas for its subject set go wrong: they leave a person off after revoking a right never held, and keep one whose
 -- only object was deleted. Its section 4.1 decides: a subject is who holds a right on some object.
-use Rattle.std.specs.Prelude.{◌≡◌, Bool, ◌&&◌, cond, List, ℕ, eqb}
-use Rattle.model.specs.declared.SubjectSet.{SubjectSet}
+use Rattle.std.specs.Prelude.{◌≡◌, Bool, ◌&&◌, cond, Result, List, ℕ, eqb}
+use Rattle.model.specs.declared.Refusal.{Refusal}
 use Rattle.bits.specs.Sets.{any_below}
 use Rattle.model.specs.Answers.{Numbered}
 use Rattle.bits.specs.Bits.{of_bits}
@@ -26,5 +26,5 @@ module _ (L : Layout) where
   subjects_answer s = cond (eqb (subjects_number s) 0) (subjects_of s) 0
 
   -- answer r and image x of asking for the subjects
-  abbrev pub Tells : List ℕ → SubjectSet → List ℕ → Type 0
-  Tells s r x = Numbered r.answer (subjects_number s) × (r.persons ≡ subjects_answer s) × (x ≡ s)
+  abbrev pub Tells : List ℕ → Result ℕ Refusal → List ℕ → Type 0
+  Tells s r x = Numbered r (subjects_number s) (subjects_of s) × (x ≡ s)
