@@ -8,19 +8,17 @@ use borrow.Author.Tests.{eq-eqb, ne_eqb, eqb-true, leb-true}
 use lib.ListN.{length, get_or}
 use lib.Dec.{eqb, leb, ltb}
 use Rattle.model.specs.declared.Facts.{Facts}
-use Rattle.model.specs.declared.Item.{Item}
-use Rattle.model.specs.declared.Right.{Right}
 use Rattle.model.specs.declared.Command.{Command}
 use Rattle.model.specs.declared.Arguments.{Arguments}
 use Rattle.model.specs.declared.Typed.{Typed}
-use Rattle.model.specs.declared.Answer.{Answer}
-use Rattle.model.specs.declared.Answer.TheVariants as is
+use Rattle.std.specs.Prelude.{Result, Ok, Err, ⊤}
+use Rattle.model.specs.declared.Question.{Question}
+use Rattle.model.specs.declared.Refusal.{Refusal}
+use Rattle.model.specs.declared.Refusal.TheVariants as is
 use Rattle.bits.specs.Sets.{any, all}
 use Rattle.model.specs.Commands.{shifts, most_loans, Ranged, raw_of, members_of}
 use Rattle.model.specs.Answers.{number_of}
 use Rattle.model.specs.Journal.{carries, loan_in}
-use Rattle.layouts.specs.declared.admit.CommandAdmission.TheVariants as command
-use Rattle.layouts.specs.declared.admit.CheckAdmission.TheVariants as check
 use Rattle.layouts.specs.Admission.{command_admission, check_admission}
 use Rattle.layouts.specs.Live.{masks_of}
 use Rattle.layouts.specs.Layouts.{grant_bytes, grant_cells, live_in, held, is_in_order, fresh_image, fresh_of}
@@ -69,17 +67,17 @@ module _ (g t : List ℕ) (room : Bool) where
         pub order_done : b ≡ true → 0 ≡ chain_guarded (images g t) room 0
         order_done z = rw (eq-eqb (length g) grant_cells l, eq-eqb (length t) loan_words k, e, o, ← by-live, z)
 
-pub inspected : (s : Images) (r : Answer) → number_of r ≡ chain_guarded s true 0 → ChainInspects s r s
+pub inspected : (s : Images) (r : Result ⊤ Refusal) → number_of r ≡ chain_guarded s true 0 → ChainInspects s r s
 inspected s r e = (numbered r _ e, refl)
 
 -- ---- a fresh unit
 module _ (g t : List ℕ) where
-  pub fresh-grants : (length g ≡ grant_cells → ⊥) → ChainFreshens (images g t) is.WrongLength (images g t)
-  fresh-grants h = rw (ne_eqb (length g) grant_cells h) (numbered is.WrongLength 1 refl, refl)
+  pub fresh-grants : (length g ≡ grant_cells → ⊥) → ChainFreshens (images g t) (Err is.WrongLength) (images g t)
+  fresh-grants h = rw (ne_eqb (length g) grant_cells h) (numbered (Err is.WrongLength) 1 refl, refl)
 
   module _ (l : length g ≡ grant_cells) where
-    pub fresh-loans : (length t ≡ loan_words → ⊥) → ChainFreshens (images g t) is.WrongLength (images g t)
-    fresh-loans h = rw (eq-eqb (length g) grant_cells l, ne_eqb (length t) loan_words h) (numbered is.WrongLength 1 refl, refl)
+    pub fresh-loans : (length t ≡ loan_words → ⊥) → ChainFreshens (images g t) (Err is.WrongLength) (images g t)
+    fresh-loans h = rw (eq-eqb (length g) grant_cells l, ne_eqb (length t) loan_words h) (numbered (Err is.WrongLength) 1 refl, refl)
 
     fresh-grants_of : fresh_of grant_bytes g ≡ fresh_image grant_bytes
     unfolding grant_bytes
@@ -87,13 +85,13 @@ module _ (g t : List ℕ) where
 
     pub fresh_both : (x y : List ℕ) → length t ≡ loan_words → x ≡ fresh_of grant_bytes g
         → y ≡ cond (eqb (length t) loan_words) (loans_image fresh_header []) t
-        → ChainFreshens (images g t) is.Done (images x y)
+        → ChainFreshens (images g t) (Ok tt) (images x y)
     unfolding chain_fresh
     fresh_both x y k p q =
         let n : eqb (length t) loan_words ≡ true = eq-eqb (length t) loan_words k in
         let e : y ≡ loans_image fresh_header [] = q ∙ rw n in
         let f : x ≡ fresh_image grant_bytes = p ∙ fresh-grants_of in
-        rw (eq-eqb (length g) grant_cells l, n) (numbered is.Done 0 refl, λ j. images (f j) (e j))
+        rw (eq-eqb (length g) grant_cells l, n) (numbered (Ok tt) 0 refl, λ j. images (f j) (e j))
 
 -- ---- the facts
 pub loan_word_is : (a : Arguments) (w : ℕ) → Ranged a → w ≡ word_of (cut (loan_in a)) → w ≡ word_of (loan_in a)
@@ -110,11 +108,11 @@ facts-are s a r w x y z m h b q f er ew ex ey ez em eh eb eq low ef =
     let n : shift_in s.loans % 256 ≡ shift_in s.loans = omega arith in rw (ex, ey, ez, em, eh, eb, eq, ef, er, ew, n)
 
 -- ---- past numbers 1 to 3
-pub ready : (s : Images) (c : Command) (order : Answer) → number_of order ≡ chain_guarded s true 0 → (t : Typed)
-    → command.Ready t ≡ command_admission order c
+pub ready : (s : Images) (c : Command) (order : Result ⊤ Refusal) → number_of order ≡ chain_guarded s true 0 → (t : Typed)
+    → Ok t ≡ command_admission order c
     → Ready s (raw_of t)
 ready s c order e t h =
-    let m = command_admitted chain_unit s c order e (command.Ready t) h in
+    let m = command_admitted chain_unit s c order e (Ok t) h in
     let p = chain_readable s true m.0 in
     record { grants = p.0; loans = p.1; ordered = p.3; ranged = m.1 }
 
@@ -130,21 +128,21 @@ counted s e =
     let c : rising (used s.loans) ≡ true = search (fst, snd) in
     (leb-true _ _ a, leb-true _ _ b, c)
 
-pub in_shape : (s : Images) (buffer : List ℕ) (p o r : ℕ) (order : Answer) → number_of order ≡ chain_guarded s (eqb (length buffer) 8) 0
-    → (x y : Item) (z : Right) → check.Ready x y z ≡ check_admission order p o r
-    → InShape s.grants s.loans x.0 y.0 z.0 (length buffer)
-in_shape s buffer p o r order e x y z h =
-    let m = check_admitted (chain_sized s (eqb (length buffer) 8)) (chain_in_order s) p o r order e (check.Ready x y z) h in
-    let q = chain_readable s (eqb (length buffer) 8) m.0 in
-    let i = asked-ranged p o r x y z m.2 in
+pub in_shape : (s : Images) (buffer : List ℕ) (p o r : ℕ) (order : Result ⊤ Refusal) → number_of order ≡ chain_guarded s (eqb (length buffer) 8) 0
+    → (q : Question) → Ok q ≡ check_admission order p o r
+    → InShape s.grants s.loans q.who.0 q.on.0 q.right.0 (length buffer)
+in_shape s buffer p o r order e q h =
+    let m = check_admitted (chain_sized s (eqb (length buffer) 8)) (chain_in_order s) p o r order e (Ok q) h in
+    let k = chain_readable s (eqb (length buffer) 8) m.0 in
+    let i = asked-ranged p o r m.2 in
     record {
-      grants = q.0;
-      loans = q.1;
-      shift = (counted s q.3).0;
-      rises = (counted s q.3).2;
-      count = (counted s q.3).1;
-      person = omega arith;
-      item = omega arith;
-      rights = omega arith;
-      buffer = eqb-true _ _ q.2;
+      grants = k.0;
+      loans = k.1;
+      shift = (counted s k.3).0;
+      rises = (counted s k.3).2;
+      count = (counted s k.3).1;
+      person = rw m.3 (omega arith);
+      item = rw m.3 (omega arith);
+      rights = rw m.3 (omega arith);
+      buffer = eqb-true _ _ k.2;
     }

@@ -21,11 +21,10 @@ ghost use Rattle.chains.specs.Ready.{Ready, Accepted, Ending, without_item, with
 
 use delegation::loan;
 use grants::Grants;
-use layouts::admit::{CheckAdmission, CommandAdmission};
 use layouts::{admit, live};
 use loans::{Loans, Rule};
 use model::{
-    Answer, ChainChecked, Command, Depth, Facts, Item, Outcome, Right, Shift, Typed, Verb, judge,
+    BestChain, Command, Depth, Facts, Item, Question, Refusal, Right, Shift, Typed, Verb, judge,
 };
 
 // The bytes of a chain buffer.
@@ -45,42 +44,42 @@ const FEW: usize = 64;
 
 // Number 1 alone: whatever the buffers held is overwritten. The small state that is written is that of `Grants::fresh` and
 // `Loans::fresh`.
-pub fn fresh(grants: &mut [u8], loans: &mut [u32]) -> Answer
+pub fn fresh(grants: &mut [u8], loans: &mut [u32]) -> Result<(), Refusal>
     ensures { ChainFreshens (images grants.old loans.old) result
         (images grants.new loans.new) }
 {
     if grants.len() != Grants::BYTES {
-        return Answer::WrongLength;
+        return Err(Refusal::WrongLength);
     }
     if loans.len() != Loans::WORDS {
-        return Answer::WrongLength;
+        return Err(Refusal::WrongLength);
     }
     grants::fresh(grants);
     loans::clear(loans);
-    Answer::Done
+    Ok(())
 }
 
 // Numbers 1 and 2; room: every other lent buffer has its length.
-fn order(grants: &[u8], loans: &[u32], room: bool) -> Answer
+fn order(grants: &[u8], loans: &[u32], room: bool) -> Result<(), Refusal>
     ensures { number_of result ≡ chain_guarded (images grants.now loans.now) room 0 }
 {
     if grants.len() != Grants::BYTES {
-        return Answer::WrongLength;
+        return Err(Refusal::WrongLength);
     }
     if loans.len() != Loans::WORDS {
-        return Answer::WrongLength;
+        return Err(Refusal::WrongLength);
     }
     if !room {
-        return Answer::WrongLength;
+        return Err(Refusal::WrongLength);
     }
     let masks = live::masks(grants);
     if !grants::in_order(grants, &masks) {
-        return Answer::NotInOrder;
+        return Err(Refusal::NotInOrder);
     }
     if !loans::order::in_order(loans, &masks) {
-        return Answer::NotInOrder;
+        return Err(Refusal::NotInOrder);
     }
-    Answer::Done
+    Ok(())
 }
 
 // The word of the loan that a command names.
@@ -88,13 +87,7 @@ fn loan_word(t: Typed) -> u32
     requires { Ranged (raw_of t) }
     ensures { result ≡ word_of (loan_in (raw_of t)) }
 {
-    let by = t.by;
-    let on = t.on;
-    let right = t.right;
-    let to = t.to;
-    let depth = t.depth;
-    let last = t.shift;
-    loan::word(by, on, right, to, depth, last)
+    loan::word(t.by, t.on, t.right, t.to, t.depth, t.shift)
 }
 
 // What the table of answers asks of the images.
@@ -102,21 +95,15 @@ fn facts(grants: &[u8], loans: &[u32], t: Typed) -> Facts
     requires { Ready (images grants.now loans.now) (raw_of t) }
     ensures { result ≡ chain_facts (images grants.now loans.now) (raw_of t) }
 {
-    let by = t.by;
-    let on = t.on;
-    let to = t.to;
-    let set = t.set;
-    let edit = Right::edit();
-    let w = loan_word(t);
     Facts {
-        by: live::is_live(grants, by),
-        on: live::is_live(grants, on),
-        to: live::is_live(grants, to),
-        members: live::are_live(grants, set),
-        edits: grants::holds(grants, by, on, edit),
+        by: live::is_live(grants, t.by),
+        on: live::is_live(grants, t.on),
+        to: live::is_live(grants, t.to),
+        members: live::are_live(grants, t.set),
+        edits: grants::holds(grants, t.by, t.on, Right::edit()),
         back: loans::shift::goes_back(loans, t.shift),
         past: loans::shift::is_past(loans, t.shift),
-        full: loans::is_full(loans, w),
+        full: loans::is_full(loans, loan_word(t)),
     }
 }
 
@@ -201,8 +188,7 @@ fn apply(grants: &mut [u8], loans: &mut [u32], t: Typed) -> u32
     ensures { (images grants.new loans.new ≡ chain_after (images grants.old loans.old)
         (raw_of t)) × (result ≡ chain_count (images grants.old loans.old) (raw_of t).verb) }
 {
-    let verb = t.verb;
-    match verb {
+    match t.verb {
         Verb::Create => grants::put_item(grants, t.by, t.on),
         Verb::Delete => drop_item(grants, loans, t.on),
         Verb::Allow => grants::put_grant(grants, t.to, t.on, t.right, t.depth),
@@ -218,26 +204,18 @@ fn apply(grants: &mut [u8], loans: &mut [u32], t: Typed) -> u32
 }
 
 // Numbers 4 to 10 and 12 to 14, and what follows.
-fn settle(grants: &mut [u8], loans: &mut [u32], t: Typed) -> Outcome
+fn settle(grants: &mut [u8], loans: &mut [u32], t: Typed) -> Result<u32, Refusal>
     requires { Ready (images grants.old loans.old) (raw_of t) }
     ensures { Returns (judged_in chain_unit (images grants.old loans.old) (raw_of t)) result
         (images grants.new loans.new) }
 {
     let f = facts(grants, loans, t);
-    let a = judge(t, f);
-    let n = a.number();
-    if n != 0 {
-        return Outcome::refused(a);
-    }
-    let k = apply(grants, loans, t);
-    Outcome {
-        answer: a,
-        count: k,
-    }
+    judge(t, f)?;
+    Ok(apply(grants, loans, t))
 }
 
 // Any command, from the numbers that arrived; a chain unit has them all.
-pub fn offer(grants: &mut [u8], loans: &mut [u32], c: Command) -> Outcome
+pub fn offer(grants: &mut [u8], loans: &mut [u32], c: Command) -> Result<u32, Refusal>
     ensures { RanCounting chain_unit (images grants.old loans.old) c result
         (images grants.new loans.new) }
 {
@@ -245,26 +223,23 @@ pub fn offer(grants: &mut [u8], loans: &mut [u32], c: Command) -> Outcome
 }
 
 // The same, given what numbers 1 and 2 say of the images: `Done`, from a caller that has kept them in order.
-fn offer_given(order: Answer, grants: &mut [u8], loans: &mut [u32], c: Command) -> Outcome
+fn offer_given(order: Result<(), Refusal>, grants: &mut [u8], loans: &mut [u32], c: Command) -> Result<u32, Refusal>
     requires { number_of order ≡ chain_guarded (images grants.old loans.old) true 0 }
     ensures { RanCounting chain_unit (images grants.old loans.old) c result
         (images grants.new loans.new) }
 {
-    let a = admit::command(order, c);
-    match a {
-        CommandAdmission::Refused(r) => Outcome::refused(r),
-        CommandAdmission::Ready(t) => settle(grants, loans, t),
-    }
+    let t = admit::command(order, c)?;
+    settle(grants, loans, t)
 }
 
-pub fn create(grants: &mut [u8], loans: &mut [u32], by: u32, on: u32) -> Outcome
+pub fn create(grants: &mut [u8], loans: &mut [u32], by: u32, on: u32) -> Result<u32, Refusal>
     ensures { RanCounting chain_unit (images grants.old loans.old) (Create by on) result
         (images grants.new loans.new) }
 {
     offer(grants, loans, Command::Create { by, on })
 }
 
-pub fn delete(grants: &mut [u8], loans: &mut [u32], by: u32, on: u32) -> Outcome
+pub fn delete(grants: &mut [u8], loans: &mut [u32], by: u32, on: u32) -> Result<u32, Refusal>
     ensures { RanCounting chain_unit (images grants.old loans.old) (Delete by on) result
         (images grants.new loans.new) }
 {
@@ -279,7 +254,7 @@ pub fn allow(
     on: u32,
     right: u32,
     depth: u32,
-) -> Outcome
+) -> Result<u32, Refusal>
     ensures { RanCounting chain_unit (images grants.old loans.old) (Allow by to on right depth) result
         (images grants.new loans.new) }
 {
@@ -305,7 +280,7 @@ pub fn allow_set(
     on: u32,
     right: u32,
     depth: u32,
-) -> Outcome
+) -> Result<u32, Refusal>
     ensures { RanCounting chain_unit (images grants.old loans.old) (AllowSet by set on right depth) result
         (images grants.new loans.new) }
 {
@@ -330,7 +305,7 @@ pub fn withdraw(
     to: u32,
     on: u32,
     right: u32,
-) -> Outcome
+) -> Result<u32, Refusal>
     ensures { RanCounting chain_unit (images grants.old loans.old) (Withdraw by to on right) result
         (images grants.new loans.new) }
 {
@@ -346,7 +321,7 @@ pub fn drop(
     on: u32,
     right: u32,
     depth: u32,
-) -> Outcome
+) -> Result<u32, Refusal>
     ensures { RanCounting chain_unit (images grants.old loans.old) (Drop by to on right depth) result
         (images grants.new loans.new) }
 {
@@ -372,7 +347,7 @@ pub fn lend(
     right: u32,
     depth: u32,
     last: u32,
-) -> Outcome
+) -> Result<u32, Refusal>
     ensures { RanCounting chain_unit (images grants.old loans.old) (Lend by to on right depth last) result
         (images grants.new loans.new) }
 {
@@ -399,7 +374,7 @@ pub fn recall(
     right: u32,
     depth: u32,
     last: u32,
-) -> Outcome
+) -> Result<u32, Refusal>
     ensures { RanCounting chain_unit (images grants.old loans.old) (Recall by to on right depth last) result
         (images grants.new loans.new) }
 {
@@ -417,7 +392,7 @@ pub fn recall(
     )
 }
 
-pub fn shift(grants: &mut [u8], loans: &mut [u32], by: u32, shift: u32) -> Outcome
+pub fn shift(grants: &mut [u8], loans: &mut [u32], by: u32, shift: u32) -> Result<u32, Refusal>
     ensures { RanCounting chain_unit (images grants.old loans.old) (command.Shift by shift) result
         (images grants.new loans.new) }
 {
@@ -425,7 +400,7 @@ pub fn shift(grants: &mut [u8], loans: &mut [u32], by: u32, shift: u32) -> Outco
 }
 
 // Ends every loan that is past its last shift; the count says how many those were.
-pub fn sweep(grants: &mut [u8], loans: &mut [u32], by: u32) -> Outcome
+pub fn sweep(grants: &mut [u8], loans: &mut [u32], by: u32) -> Result<u32, Refusal>
     ensures { RanCounting chain_unit (images grants.old loans.old) (Sweep by) result
         (images grants.new loans.new) }
 {
@@ -438,41 +413,37 @@ fn answer_in(
     out: &mut [u32],
     grants: &[u8],
     loans: &[u32],
-    who: Item,
-    on: Item,
-    right: Right,
+    q: Question,
     chain: &mut [u8],
-) -> ChainChecked
-    requires { InShape grants.now loans.now who.0 on.0 right.0 (length chain.old)
+) -> Option<BestChain>
+    requires { InShape grants.now loans.now q.who.0 q.on.0 q.right.0 (length chain.old)
         × (count_of loans.now ≤ length out.old) }
-    ensures { (result ≡ found_said (found_of grants.now loans.now (8 * on.0 + right.0) who.0))
-        × (chain.new ≡ chain_of grants.now loans.now (8 * on.0 + right.0) who.0) }
+    ensures { (result ≡ found_said (found_of grants.now loans.now (8 * q.on.0 + q.right.0) q.who.0))
+        × (chain.new ≡ chain_of grants.now loans.now (8 * q.on.0 + q.right.0) q.who.0) }
 {
-    let m = picking::pick(out, loans, on, right);
-    let base = ROLL + HOLDERS * loan::key(on, right) as usize;
-    search::best(&grants[base..base + HOLDERS], &out[..m], who, chain)
+    let m = picking::pick(out, loans, q.on, q.right);
+    let base = ROLL + HOLDERS * loan::key(q.on, q.right) as usize;
+    search::best(&grants[base..base + HOLDERS], &out[..m], q.who, chain)
 }
 
 // The same, with a buffer by the number of loans in use.
 fn answer(
     grants: &[u8],
     loans: &[u32],
-    who: Item,
-    on: Item,
-    right: Right,
+    q: Question,
     chain: &mut [u8],
-) -> ChainChecked
-    requires { InShape grants.now loans.now who.0 on.0 right.0 (length chain.old) }
-    ensures { (result ≡ found_said (found_of grants.now loans.now (8 * on.0 + right.0) who.0))
-        × (chain.new ≡ chain_of grants.now loans.now (8 * on.0 + right.0) who.0) }
+) -> Option<BestChain>
+    requires { InShape grants.now loans.now q.who.0 q.on.0 q.right.0 (length chain.old) }
+    ensures { (result ≡ found_said (found_of grants.now loans.now (8 * q.on.0 + q.right.0) q.who.0))
+        × (chain.new ≡ chain_of grants.now loans.now (8 * q.on.0 + q.right.0) q.who.0) }
 {
     let header = loans::header_of(loans);
     if header.count as usize <= FEW {
         let mut few = [0u32; FEW];
-        return answer_in(&mut few, grants, loans, who, on, right, chain);
+        return answer_in(&mut few, grants, loans, q, chain);
     }
     let mut many = [0u32; MANY];
-    answer_in(&mut many, grants, loans, who, on, right, chain)
+    answer_in(&mut many, grants, loans, q, chain)
 }
 
 // Whether a chain of grants and carrying loans leads to the person, with the greatest depth that any ends with. Of those that do, one with
@@ -484,7 +455,7 @@ pub fn check(
     on: u32,
     right: u32,
     chain: &mut [u8],
-) -> ChainChecked
+) -> Result<Option<BestChain>, Refusal>
     ensures { ChainChecks (images grants.now loans.now) chain.old who on right result
         chain.new (images grants.now loans.now) }
 {
@@ -501,31 +472,24 @@ pub fn check(
 
 // The same, given what numbers 1 and 2 say of the images and the chain buffer.
 fn check_given(
-    order: Answer,
+    order: Result<(), Refusal>,
     grants: &[u8],
     loans: &[u32],
     who: u32,
     on: u32,
     right: u32,
     chain: &mut [u8],
-) -> ChainChecked
+) -> Result<Option<BestChain>, Refusal>
     requires { number_of order ≡ chain_guarded (images grants.now loans.now) (eqb (length chain.old) 8) 0 }
     ensures { ChainChecks (images grants.now loans.now) chain.old who on right result
         chain.new (images grants.now loans.now) }
 {
-    let a = admit::check(order, who, on, right);
-    match a {
-        CheckAdmission::Refused(r) => ChainChecked::Refused(r),
-        CheckAdmission::Ready {
-            who: p,
-            on: i,
-            right: r,
-        } => answer(grants, loans, p, i, r, chain),
-    }
+    let q = admit::check(order, who, on, right)?;
+    Ok(answer(grants, loans, q, chain))
 }
 
 // Numbers 1 and 2 alone, for a caller that reads the images itself.
-pub fn inspect(grants: &[u8], loans: &[u32]) -> Answer
+pub fn inspect(grants: &[u8], loans: &[u32]) -> Result<(), Refusal>
     ensures { ChainInspects (images grants.now loans.now) result
         (images grants.now loans.now) }
 {

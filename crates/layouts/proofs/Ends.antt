@@ -24,7 +24,7 @@ use Rattle.layouts.proofs.Guarding.{guard_passed, guard_known, check_guard_known
 -- ---- a command, in any machine
 module _ {S : Type 0} (M : Machine S) (s : S) where
   module _ (a : Arguments) (f : Facts) (e : f ≡ M.facts s a) where
-    judged_number : (r : Result ⊤ Refusal) → r ≡ answer_for (table f a) → number_of r ≡ table (M.facts s a) a
+    pub judged_number : (r : Result ⊤ Refusal) → r ≡ answer_for (table f a) → number_of r ≡ table (M.facts s a) a
     judged_number r p = ap number_of p ∙ answered_number (table f a) tt (table-known f a) ∙ ap (λ g. table g a) e
 
     -- where the table refuses: the state stays, and nothing is counted

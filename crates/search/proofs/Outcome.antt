@@ -4,29 +4,15 @@ use mathlib.Core.List.{List, ◌++◌}
 use Prim.Native.Nat.{ℕ, ◌+◌, ◌-◌, ◌≤◌}
 use native.Mathlib.Omega.{arith}
 use borrow.Author.Tests.{ne_eqb}
-use Rattle.model.specs.Commands.{depth_of}
 use Rattle.model.specs.Answers.{found_said}
-use Rattle.model.specs.declared.Depth.{Depth}
-use Rattle.model.specs.declared.DepthRead.TheVariants as depthRead
-use Rattle.model.specs.declared.ChainChecked.TheVariants as chain
 use lib.ListN.{replicate}
 use Rattle.bits.specs.Sets.{tabulate, most, first_at}
 use Rattle.delegation.specs.Search.{grant_round, round_at, column, traced, rounds_of, height_of, length_of, best_of, best_chain}
-use Rattle.model.proofs.Commands.{depth_is, depth_never}
 use Rattle.bits.proofs.Indexed.{first-most}
 use Rattle.delegation.proofs.Search.{height_le, best-no, best-yes}
 use Rattle.search.specs.Entry.{entry_found}
 use Rattle.search.specs.Settled.{Settled}
 use Rattle.search.proofs.Trace.{traced_ext}
-
--- an entry of at most 8 is read as a depth, and never found beyond the limit
-module _ (value at : ℕ) (le : value ≤ 8) (ne : value ≡ 0 → ⊥) where
-  pub said-within : (d : Depth) → depth_of (value - 1) ≡ depthRead.Within d → chain.Yes d (at + 1) ≡ found_said (entry_found value at)
-  unfolding found_said
-  said-within d e = rw (ne_eqb value 0 ne, ← (depth_is (value - 1) d (omega arith) e))
-
-  pub said-beyond : depth_of (value - 1) ≡ depthRead.Beyond → ⊥
-  said-beyond e = depth_never (value - 1) (omega arith) e
 
 -- what the code has before it answers
 pub record Searched (bytes ls : List ℕ) (who : ℕ) (rounds : List (List ℕ)) (value at : ℕ) : Type 0 where

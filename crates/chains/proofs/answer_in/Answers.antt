@@ -16,10 +16,10 @@ slice_bounds-best-end-3 c =
 pub returns : goal.returns
 unfolding grants_of found_of chain_of
 returns c =
-    let key : c.key.result ≡ 8 * c.args.on.0 + c.args.right.0 = omega (arith, c.key.ensures, c.requires.0.item, c.requires.0.rights) in
+    let key : c.key.result ≡ 8 * c.args.q.on.0 + c.args.q.right.0 = omega (arith, c.key.ensures, c.requires.0.item, c.requires.0.rights) in
     let m : 8 + 64 * c.key.result + 64 - (8 + 64 * c.key.result) ≡ 64 = omega arith in
     let own : take (8 + 64 * c.key.result + 64 - (8 + 64 * c.key.result)) (drop (8 + 64 * c.key.result) c.args.grants.now)
-    ≡ grants_of c.args.grants.now (8 * c.args.on.0 + c.args.right.0) = λ j. take (m j) (drop (8 + 64 * key j) c.args.grants.now) in (
-      c.best.ensures.0 ∙ (λ j. found_said (best_of (own j) (c.pick-m.ensures.1 j) c.args.who.0)),
-      c.best.ensures.1 ∙ (λ j. best_chain (own j) (c.pick-m.ensures.1 j) c.args.who.0),
+    ≡ grants_of c.args.grants.now (8 * c.args.q.on.0 + c.args.q.right.0) = λ j. take (m j) (drop (8 + 64 * key j) c.args.grants.now) in (
+      c.best.ensures.0 ∙ (λ j. found_said (best_of (own j) (c.pick-m.ensures.1 j) c.args.q.who.0)),
+      c.best.ensures.1 ∙ (λ j. best_chain (own j) (c.pick-m.ensures.1 j) c.args.q.who.0),
     )

@@ -10,7 +10,7 @@ pub returns : goal.returns
 unfolding grant_bytes
 returns c =
     facts-are (images c.args.grants.now c.args.loans.now) (raw_of c.args.t) _ _ _ _ _ _ _ _ _ _
-    c.edit-edit.ensures c.loan_word-w.ensures
+    c.edit.ensures c.loan_word.ensures
     c.is_live.ensures c.is_live-2.ensures c.is_live-3.ensures
     c.are_live.ensures c.holds.ensures
     c.goes_back.ensures c.is_past.ensures (counted _ c.requires.ordered).0 c.is_full.ensures

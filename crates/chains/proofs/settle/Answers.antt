@@ -1,30 +1,29 @@
--- The table is asked about the facts of the images: another number than 0 leaves both and counts nothing (`counting_stops`); 0 means that
--- the command is accepted (`accepted`), and it is applied and counts (`counting_goes`).
+-- The table is asked about the facts of the images: a refusal leaves both and counts nothing (`counting_stops`); where there is none the
+-- command is accepted (`accepted`), and it is applied and counts (`counting_goes`).
+use mathlib.Core.Path.{◌≡◌, sym, subst}
+use Rattle.std.proofs.Common.{rules}
+use Rattle.std.specs.Prelude.{Err}
+use Rattle.model.specs.Answers.{Returns}
+use Rattle.layouts.specs.Machine.{judged_in}
 use Rattle.layouts.proofs.Ends.{counting_stops, counting_goes}
 use Rattle.delegation.specs.ChainUnit.{chain_unit}
-use Rattle.chains.proofs.Arms.{accepted, as_refused}
+use Rattle.chains.proofs.Arms.{accepted}
 use Rattle.model.specs.Commands.{raw_of}
 use Rattle.delegation.specs.Images.{images}
 use Rattle.chains.proofs.settle.Goals as goal
 
-pub returns-then-n-ne0 : goal.returns-then-n-ne0
-returns-then-n-ne0 c =
-    as_refused _ _ _ _ c.refused.ensures
-    (counting_stops chain_unit (images c.args.grants.now c.args.loans.now) (raw_of c.args.t) _ _ _
-    c.facts-f.ensures c.judge-a.ensures
-    c.number-n.ensures c.if-n-ne0.true)
+pub returns-in_err-judge : goal.returns-in_err-judge
+returns-in_err-judge c =
+    let s = images c.args.grants.now c.args.loans.now in
+    let e : c.from_residual.result ≡ Err c.in_err-judge.field-0.0 = search rules in
+    subst (λ r. Returns (judged_in chain_unit s (raw_of c.args.t)) r s) (sym e)
+    (counting_stops chain_unit s (raw_of c.args.t) _ c.facts-f.ensures _ c.in_err-judge.ensures)
 
-pub apply-k-requires : goal.apply-k-requires
-apply-k-requires c =
-    accepted (images c.args.grants.now c.args.loans.now) (raw_of c.args.t) _ _ _ c.requires
-    c.facts-f.ensures c.judge-a.ensures
-    c.number-n.ensures c.if-n-ne0.false
+pub apply-requires : goal.apply-requires
+apply-requires c =
+    accepted (images c.args.grants.now c.args.loans.now) (raw_of c.args.t) _ _ c.requires c.facts-f.ensures c.in_ok-judge.ensures
 
 pub returns : goal.returns
 returns c =
-    counting_goes chain_unit (images c.args.grants.now c.args.loans.now) (raw_of c.args.t) _ _ _ _ _
-    c.facts-f.ensures
-    c.judge-a.ensures
-    c.number-n.ensures
-    c.if-n-ne0.false c.apply-k.ensures.0
-    c.apply-k.ensures.1
+    counting_goes chain_unit (images c.args.grants.now c.args.loans.now) (raw_of c.args.t) _ c.facts-f.ensures _ _ _
+    c.in_ok-judge.ensures c.apply.ensures.0 c.apply.ensures.1

@@ -1,21 +1,30 @@
--- An entry of 0 says no. Another is at most 8, so the depth one below it is within its limit (`said-within`), and the arm of a depth
--- beyond it is never taken (`said-beyond`).
-use mathlib.Core.Path.{sym, ◌∙◌}
-use borrow.Author.Tests.{eq-eqb}
+-- An entry of 0 has no chain. Another is at most 8, so one below it is a depth (`depth_read`).
+use Rattle.std.proofs.Common.{rules}
+use Rattle.std.specs.Prelude.{◌≡◌, Option, Some, None, ℕ, ◌+◌, ◌-◌}
+use mathlib.Core.Path.{sym, ap, ◌∙◌}
+use native.Mathlib.Omega.{arith}
+use borrow.Author.Tests.{eq-eqb, ne_eqb}
 use Rattle.model.specs.Answers.{found_said}
-use Rattle.search.proofs.Outcome.{said-within, said-beyond}
+use Rattle.model.specs.declared.Depth.{Depth}
+use Rattle.model.specs.declared.BestChain.{BestChain}
+use Rattle.model.proofs.Commands.{depth_read}
 use Rattle.search.proofs.said.Goals as goal
 
-pub returns-then-value-eq0 : goal.returns-then-value-eq0
+pub returns-in_err-below : goal.returns-in_err-below
 unfolding found_said
-returns-then-value-eq0 c = rw (eq-eqb _ _ c.if-value-eq0.true)
+returns-in_err-below c =
+    let z : c.args.e.value ≡ 0 = omega (arith, c.in_err-below.ensures) in
+    let r : c.from_residual.result ≡ None = search rules in
+    r ∙ sym (rw (eq-eqb _ _ z))
 
-pub returns-in-Within : goal.returns-in-Within
-returns-in-Within c =
-    said-within c.args.e.value c.args.e.at c.requires.0 c.if-value-eq0.false _
-    (sym c.read-depth.ensures ∙ c.in-Within.is)
-
-pub returns-in-Beyond : goal.returns-in-Beyond
-returns-in-Beyond c =
-    absurd (said-beyond c.args.e.value c.args.e.at c.requires.0 c.if-value-eq0.false
-    (sym c.read-depth.ensures ∙ c.in-Beyond.is))
+pub returns : goal.returns
+unfolding found_said
+returns c =
+    let b : c.args.e.value ≡ c.in_ok-below.below + 1 = omega (arith, c.in_ok-below.ensures) in
+    let d : c.in_ok-depth.depth ≡ record { 0 = c.in_ok-below.below } =
+    cc (c.in_ok-depth.ensures, depth_read c.in_ok-below.below (omega (arith, b, c.requires.0))) in
+    let n : c.in_ok-below.below ≡ c.args.e.value - 1 = omega (arith, b) in
+    let f : ◌≡◌ {A = Option BestChain} (Some (record { depth = c.in_ok-depth.depth; persons = c.args.e.at + 1 }))
+    (Some (record { depth = record { 0 = c.args.e.value - 1 }; persons = c.args.e.at + 1 })) =
+    (λ j. Some (record { depth = (d ∙ ap (λ k. record { 0 = k }) n) j; persons = c.args.e.at + 1 })) in
+    f ∙ sym (rw (ne_eqb c.args.e.value 0 (λ z. omega (arith, b, z))))
