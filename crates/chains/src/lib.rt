@@ -209,8 +209,8 @@ fn settle(grants: &mut [u8], loans: &mut [u32], t: Typed) -> Result<u32, Refusal
     ensures { Returns (judged_in chain_unit (images grants.old loans.old) (raw_of t)) result
         (images grants.new loans.new) }
 {
-    let f = facts(grants, loans, t);
-    judge(t, f)?;
+    let answer = judge(t, facts(grants, loans, t));
+    answer?;
     Ok(apply(grants, loans, t))
 }
 

@@ -12,18 +12,18 @@ use Rattle.model.specs.Commands.{raw_of}
 use Rattle.delegation.specs.Images.{images}
 use Rattle.chains.proofs.settle.Goals as goal
 
-pub returns-in_err-judge : goal.returns-in_err-judge
-returns-in_err-judge c =
+pub returns-in_err-answer : goal.returns-in_err-answer
+returns-in_err-answer c =
     let s = images c.args.grants.now c.args.loans.now in
-    let e : c.from_residual.result ≡ Err c.in_err-judge.field-0.0 = search rules in
+    let e : c.from_residual.result ≡ Err c.in_err-answer.field-0.0 = search rules in
     subst (λ r. Returns (judged_in chain_unit s (raw_of c.args.t)) r s) (sym e)
-    (counting_stops chain_unit s (raw_of c.args.t) _ c.facts-f.ensures _ c.in_err-judge.ensures)
+    (counting_stops chain_unit s (raw_of c.args.t) _ c.facts.ensures _ c.in_err-answer.ensures)
 
 pub apply-requires : goal.apply-requires
 apply-requires c =
-    accepted (images c.args.grants.now c.args.loans.now) (raw_of c.args.t) _ _ c.requires c.facts-f.ensures c.in_ok-judge.ensures
+    accepted (images c.args.grants.now c.args.loans.now) (raw_of c.args.t) _ _ c.requires c.facts.ensures c.in_ok-answer.ensures
 
 pub returns : goal.returns
 returns c =
-    counting_goes chain_unit (images c.args.grants.now c.args.loans.now) (raw_of c.args.t) _ c.facts-f.ensures _ _ _
-    c.in_ok-judge.ensures c.apply.ensures.0 c.apply.ensures.1
+    counting_goes chain_unit (images c.args.grants.now c.args.loans.now) (raw_of c.args.t) _ c.facts.ensures _ _ _
+    c.in_ok-answer.ensures c.apply.ensures.0 c.apply.ensures.1
