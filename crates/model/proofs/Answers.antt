@@ -12,7 +12,7 @@ use Rattle.model.specs.declared.Arguments.{Arguments}
 use Rattle.std.specs.Prelude.{Some, None, Result, Ok, Err, ⊤}
 use Rattle.model.specs.declared.Refusal.{Refusal}
 use Rattle.model.specs.declared.Refusal.TheVariants as is
-use Rattle.model.specs.Answers.{answer, refusal_number, refusal_for, number_of, answered, Numbered, effect_of, checked_yes, Found, nothing, found_in, found_said, table, asked, knows}
+use Rattle.model.specs.Answers.{answer, refusal_number, refusal_for, number_of, answered, Numbered, effect_of, count_in, checked_yes, Found, nothing, found_in, found_said, table, asked, knows}
 use Rattle.model.specs.Commands.{fits, items, right_depth, is_empty}
 
 pub refusal_for_lem : (r : Refusal) → refusal_for (refusal_number r) ≡ r
@@ -172,6 +172,12 @@ answered_number (suc n) a k =
     go : (r : Result ⊤ Refusal) → number_of r ≡ suc n → refusal_number (refusal_for (suc n)) ≡ suc n
     go (Ok x) e = absurd (omega (arith, e))
     go (Err r) e = ap refusal_number (ap refusal_for (sym e) ∙ refusal_for_lem r) ∙ e
+
+-- an answer with a count that is 0 beside a refusal has it
+pub counted_number : (n k : ℕ) → count_in (answered n (cond (eqb n 0) k 0)) ≡ cond (eqb n 0) k 0
+unfolding answered
+counted_number zero k = refl
+counted_number (suc n) k = rw (ne_eqb (suc n) 0 (λ z. omega arith))
 
 -- ---- checks
 pub checked_yes_lem : (n : ℕ) (b : Bool) → checked_yes (answered n b) ≡ eqb n 0 && b

@@ -90,6 +90,11 @@ effect_of s n k x = record { number = n; count = cond (eqb n 0) k 0; state = con
 abbrev pub Returns : {S : Type 0} → Effect S → Result ℕ Refusal → S → Type 0
 Returns q r x = Numbered r q.number q.count × (x ≡ q.state)
 
+-- what a command's answer counts: 0 beside a refusal
+abbrev pub count_in : Result ℕ Refusal → ℕ
+count_in (Ok k) = k
+count_in (Err r) = 0
+
 -- ---- a check: whether it says yes
 abbrev pub checked_yes : Result Bool Refusal → Bool
 checked_yes (Ok said) = said

@@ -1,12 +1,11 @@
 -- Lines of output, and what the three units reply to a line.
-use Rattle.std.specs.Prelude.{◌≡◌, Bool, cond, List, [], ◌∷◌, ◌++◌, ℕ, ◌+◌, ◌≤◌, length, take, replicate, eqb, leb}
+use Rattle.std.specs.Prelude.{◌≡◌, Bool, cond, Option, Some, None, Result, ⊤, List, [], ◌∷◌, ◌++◌, ℕ, ◌+◌, ◌≤◌, length, take, replicate, eqb, leb}
 use Rattle.std.proofs.lemmas.List.Edits.{sets}
 use Rattle.model.specs.declared.Command.{Command}
-use Rattle.model.specs.declared.Answer.TheVariants as is
-use Rattle.model.specs.declared.Offered.{Offered}
-use Rattle.model.specs.declared.Offered.TheVariants as offered
+use Rattle.model.specs.declared.Refusal.{Refusal}
+use Rattle.model.specs.declared.Refusal.TheVariants as is
 use Rattle.model.specs.Commands.{is_sweep}
-use Rattle.model.specs.Answers.{Found, number_of}
+use Rattle.model.specs.Answers.{Found, refusal_number, number_of}
 use Rattle.output.specs.declared.reply.Said.{Said}
 use Rattle.output.specs.declared.reply.Said.TheVariants.{Number, Yes, No, Passed}
 use Rattle.output.specs.declared.reply.Tail.{Tail}
@@ -95,9 +94,9 @@ abbrev pub offered_said : Bool → ℕ → Said
 offered_said has n = cond has (Number n) Passed
 
 -- the same of what the unit made of it
-abbrev pub offered_of : Offered → Said
-offered_of (offered.Answered a) = Number (number_of a)
-offered_of offered.Passed = Passed
+abbrev pub offered_of : Option (Result ⊤ Refusal) → Said
+offered_of (Some a) = Number (number_of a)
+offered_of None = Passed
 
 -- what comes after a command, by the chain unit's number and count: of sweep the count, '`-` when refused', of any other nothing
 abbrev pub command_tail : Command → ℕ → ℕ → Tail
@@ -113,7 +112,7 @@ check_tail f = cond f.yes (Chain f.depth f.persons) Dashes
 
 -- 'A malformed line shows 11 in all three and no more fields'
 abbrev pub malformed_reply : Reply
-malformed_reply = reply (Number (number_of is.Malformed)) (Number (number_of is.Malformed)) (Number (number_of is.Malformed)) Nothing
+malformed_reply = reply (Number (refusal_number is.Malformed)) (Number (refusal_number is.Malformed)) (Number (refusal_number is.Malformed)) Nothing
 
 -- the chain buffer lent to a check
 abbrev pub lent_buffer : List ℕ

@@ -1,10 +1,10 @@
 // What the three units reply to a line.
-ghost use Rattle.std.specs.Prelude.{◌≡◌, false};
-ghost use Rattle.model.specs.Answers.{number_of, checked_number, checked_yes, chain_number, found_in};
+ghost use Rattle.std.specs.Prelude.{◌≡◌};
+ghost use Rattle.model.specs.Answers.{number_of, count_in, checked_yes, found_in};
 ghost use Rattle.output.specs.declared.reply.Said.TheVariants.{Number};
 ghost use Rattle.output.specs.Output.{reply, malformed_reply, offered_of, command_tail, check_said, check_tail};
 
-use model::{Answer, ChainChecked, Checked, Command, Offered, Outcome};
+use model::{BestChain, Command, Refusal, number};
 
 // A unit's field: its number, yes or no, or that it passes the command over.
 #[derive(Clone, Copy)]
@@ -35,76 +35,67 @@ pub struct Reply {
     pub tail: Tail,
 }
 
-// A refusal of a check; number 0 is none.
-fn refused(a: Answer) -> Said
-    ensures { result ≡ check_said (number_of a) false }
-{
-    let n = a.number();
-    if n == 0 {
-        return Said::No;
+// What a unit makes of a command.
+impl From<Option<Result<(), Refusal>>> for Said {
+    ghost from_gives = { λ o said. said ≡ offered_of o };
+
+    fn from(offered: Option<Result<(), Refusal>>) -> Said {
+        match offered {
+            Some(answer) => Said::Number(number(answer)),
+            None => Said::Passed,
+        }
     }
-    Said::Number(n)
 }
 
-impl Said {
-    // What a unit makes of a command.
-    pub fn of_offered(o: Offered) -> Said
-        ensures { result ≡ offered_of o }
-    {
-        match o {
-            Offered::Answered(a) => Said::Number(a.number()),
-            Offered::Passed => Said::Passed,
+// What lists or rows say of a check.
+impl From<Result<bool, Refusal>> for Said {
+    ghost from_gives = { λ c said. said ≡ check_said (number_of c) (checked_yes c) };
+
+    fn from(checked: Result<bool, Refusal>) -> Said {
+        match checked {
+            Ok(true) => Said::Yes,
+            Ok(false) => Said::No,
+            Err(refusal) => Said::Number(refusal.number()),
         }
     }
+}
 
-    // What lists or rows say of a check.
-    pub fn of_check(c: Checked) -> Said
-        ensures { result ≡ check_said (checked_number c) (checked_yes c) }
-    {
-        match c {
-            Checked::Yes => Said::Yes,
-            Checked::No => Said::No,
-            Checked::Refused(a) => refused(a),
-        }
+// What a chain unit says of a check.
+impl From<Result<Option<BestChain>, Refusal>> for Said {
+    ghost from_gives = { λ c said. said ≡ check_said (number_of c) (found_in c).yes };
+
+    fn from(checked: Result<Option<BestChain>, Refusal>) -> Said {
+        Said::from(checked.map(|best| best.is_some()))
     }
+}
 
-    // What a chain unit says of a check.
-    pub fn of_chain(c: ChainChecked) -> Said
-        ensures { result ≡ check_said (chain_number c) (found_in c).yes }
-    {
-        match c {
-            ChainChecked::Yes { .. } => Said::Yes,
-            ChainChecked::No => Said::No,
-            ChainChecked::Refused(a) => refused(a),
+// What comes after a check, by what the chain unit made of it.
+impl From<Result<Option<BestChain>, Refusal>> for Tail {
+    ghost from_gives = { λ c tail. tail ≡ check_tail (found_in c) };
+
+    fn from(checked: Result<Option<BestChain>, Refusal>) -> Tail {
+        match checked {
+            Ok(Some(best)) => Tail::Chain {
+                depth: best.depth.number(),
+                persons: best.persons,
+            },
+            Ok(None) => Tail::Dashes,
+            Err(_) => Tail::Dashes,
         }
     }
 }
 
 impl Tail {
     // After a command, by what the chain unit made of it.
-    pub fn of_command(c: Command, chain: Outcome) -> Tail
-        ensures { result ≡ command_tail c (number_of chain.answer) chain.count }
+    pub fn of_command(c: Command, chain: Result<u32, Refusal>) -> Tail
+        ensures { result ≡ command_tail c (number_of chain) (count_in chain) }
     {
         if !c.is_sweep() {
             return Tail::Nothing;
         }
-        if chain.number() != 0 {
-            return Tail::Unswept;
-        }
-        Tail::Swept(chain.count)
-    }
-
-    // After a check.
-    pub fn of_chain(c: ChainChecked) -> Tail
-        ensures { result ≡ check_tail (found_in c) }
-    {
-        match c {
-            ChainChecked::Yes { depth, persons } => Tail::Chain {
-                depth: depth.number(),
-                persons,
-            },
-            ChainChecked::No => Tail::Dashes,
-            ChainChecked::Refused(_) => Tail::Dashes,
+        match chain {
+            Ok(count) => Tail::Swept(count),
+            Err(_) => Tail::Unswept,
         }
     }
 }
@@ -114,47 +105,47 @@ impl Reply {
     pub fn malformed() -> Reply
         ensures { result ≡ malformed_reply }
     {
-        let a = Answer::Malformed;
-        let n = a.number();
+        let said = Said::Number(Refusal::Malformed.number());
         Reply {
-            list: Said::Number(n),
-            row: Said::Number(n),
-            chain: Said::Number(n),
+            list: said,
+            row: said,
+            chain: said,
             tail: Tail::Nothing,
         }
     }
 
     // To a command.
-    pub fn of_command(c: Command, list: Offered, row: Offered, chain: Outcome) -> Reply
-        ensures { result ≡ reply (offered_of list) (offered_of row) (Number (number_of chain.answer))
-            (command_tail c (number_of chain.answer) chain.count) }
+    pub fn of_command(
+        c: Command,
+        list: Option<Result<(), Refusal>>,
+        row: Option<Result<(), Refusal>>,
+        chain: Result<u32, Refusal>,
+    ) -> Reply
+        ensures { result ≡ reply (offered_of list) (offered_of row) (Number (number_of chain))
+            (command_tail c (number_of chain) (count_in chain)) }
     {
-        let l = Said::of_offered(list);
-        let r = Said::of_offered(row);
-        let n = chain.number();
-        let t = Tail::of_command(c, chain);
         Reply {
-            list: l,
-            row: r,
-            chain: Said::Number(n),
-            tail: t,
+            list: Said::from(list),
+            row: Said::from(row),
+            chain: Said::Number(number(chain)),
+            tail: Tail::of_command(c, chain),
         }
     }
 
     // To a check.
-    pub fn of_check(list: Checked, row: Checked, chain: ChainChecked) -> Reply
-        ensures { result ≡ reply (check_said (checked_number list) (checked_yes list)) (check_said (checked_number row) (checked_yes row))
-            (check_said (chain_number chain) (found_in chain).yes) (check_tail (found_in chain)) }
+    pub fn of_check(
+        list: Result<bool, Refusal>,
+        row: Result<bool, Refusal>,
+        chain: Result<Option<BestChain>, Refusal>,
+    ) -> Reply
+        ensures { result ≡ reply (check_said (number_of list) (checked_yes list)) (check_said (number_of row) (checked_yes row))
+            (check_said (number_of chain) (found_in chain).yes) (check_tail (found_in chain)) }
     {
-        let l = Said::of_check(list);
-        let r = Said::of_check(row);
-        let c = Said::of_chain(chain);
-        let t = Tail::of_chain(chain);
         Reply {
-            list: l,
-            row: r,
-            chain: c,
-            tail: t,
+            list: Said::from(list),
+            row: Said::from(row),
+            chain: Said::from(chain),
+            tail: Tail::from(chain),
         }
     }
 }

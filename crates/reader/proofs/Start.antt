@@ -5,8 +5,9 @@ use Prim.Native.Nat.{ℕ}
 use borrow.Author.Tests.{eq-eqb, eqb-true}
 use lib.ListN.{length}
 use lib.Dec.{eqb}
-use Rattle.model.specs.declared.Answer.{Answer}
-use Rattle.model.specs.declared.Answer.TheVariants as is
+use Rattle.std.specs.Prelude.{Result, Err, ⊤}
+use Rattle.model.specs.declared.Refusal.{Refusal}
+use Rattle.model.specs.declared.Refusal.TheVariants as is
 use Rattle.layouts.specs.Layouts.{list_words, row_bytes, grant_cells, lists, rows, Freshens}
 use Rattle.delegation.specs.Loans.{loan_words}
 use Rattle.delegation.specs.Images.{images}
@@ -22,7 +23,7 @@ Sized u =
     (length u.lists ≡ list_words) × (length u.rows ≡ row_bytes) × (length u.chains.grants ≡ grant_cells)
     × (length u.chains.loans ≡ loan_words)
 
-pub start-refused : (u : Units) → (Sized u → ⊥) → Starts u is.WrongLength u
+pub start-refused : (u : Units) → (Sized u → ⊥) → Starts u (Err is.WrongLength) u
 unfolding start_number start_of
 start-refused u h =
     by_cases (sized u)
@@ -34,9 +35,9 @@ start-refused u h =
     let c = fst (eqb (length u.chains.grants) grant_cells) (eqb (length u.chains.loans) loan_words) q3 in
     let d = snd (eqb (length u.chains.grants) grant_cells) (eqb (length u.chains.loans) loan_words) q3 in
     absurd (h (eqb-true _ list_words a, eqb-true _ row_bytes b, eqb-true _ grant_cells c, eqb-true _ loan_words d)))
-    (λ q. rw q (numbered is.WrongLength 1 refl, refl))
+    (λ q. rw q (numbered (Err is.WrongLength) 1 refl, refl))
 
-pub start_done : (u : Units) → Sized u → (l r a : Answer) (x y g t : List ℕ) → Freshens lists u.lists l x → Freshens rows u.rows r y
+pub start_done : (u : Units) → Sized u → (l r a : Result ⊤ Refusal) (x y g t : List ℕ) → Freshens lists u.lists l x → Freshens rows u.rows r y
     → ChainFreshens u.chains a (images g t) → Starts u a (units_in x y g t)
 unfolding start_number start_of fresh_units lists rows
 start_done u h l r a x y g t hx hy hz =
@@ -51,7 +52,7 @@ start_done u h l r a x y g t hx hy hz =
     rw (d1, d2, d3, d4) (n', λ i. record { lists = x' i; rows = y' i; chains = z' i })
 
 -- buffers of their lengths are made fresh
-pub started : (u x : Units) (r : Answer) → Sized u → Starts u r x → x ≡ fresh_units
+pub started : (u x : Units) (r : Result ⊤ Refusal) → Sized u → Starts u r x → x ≡ fresh_units
 unfolding start_of
 started u x r h s =
     let d1 = eq-eqb (length u.lists) list_words h.0 in

@@ -1,6 +1,6 @@
 -- One line, run on the three units in their lent buffers; and the three units made fresh.
-use Rattle.std.specs.Prelude.{◌≡◌, Bool, ◌&&◌, cond, List, ℕ, length, eqb}
-use Rattle.model.specs.declared.Answer.{Answer}
+use Rattle.std.specs.Prelude.{◌≡◌, Bool, ◌&&◌, cond, Result, ⊤, List, ℕ, length, eqb}
+use Rattle.model.specs.declared.Refusal.{Refusal}
 use Rattle.model.specs.Answers.{Numbered}
 use Rattle.layouts.specs.Machine.{InOrder}
 use Rattle.layouts.specs.Layouts.{lists, rows, flat_unit, list_words, row_bytes, grant_cells}
@@ -44,5 +44,5 @@ unfoldable pub start_of : Units → Units
 start_of u = cond (sized u) fresh_units u
 
 -- answer r and units x of making the three units fresh
-abbrev pub Starts : Units → Answer → Units → Type 0
-Starts u r x = Numbered r (start_number u) × (x ≡ start_of u)
+abbrev pub Starts : Units → Result ⊤ Refusal → Units → Type 0
+Starts u r x = Numbered r (start_number u) tt × (x ≡ start_of u)

@@ -7,7 +7,7 @@ ghost use Rattle.output.specs.Output.{lent_buffer};
 ghost use Rattle.reader.specs.Replies.{units_in, Replies, Starts};
 
 use lines::Parsed;
-use model::{Answer, Command};
+use model::{Command, Refusal};
 use output::reply::Reply;
 
 // A reply, and the chain buffer after the line.
@@ -18,24 +18,24 @@ pub struct Replied {
 }
 
 // Makes the three units fresh; number 1 alone, and then nothing is changed.
-pub fn fresh(list: &mut [u64], row: &mut [u8], grants: &mut [u8], loans: &mut [u32]) -> Answer
+pub fn fresh(list: &mut [u64], row: &mut [u8], grants: &mut [u8], loans: &mut [u32]) -> Result<(), Refusal>
     ensures { Starts (units_in list.old row.old grants.old loans.old) result
         (units_in list.new row.new grants.new loans.new) }
 {
     if list.len() != lists::Lists::WORDS {
-        return Answer::WrongLength;
+        return Err(Refusal::WrongLength);
     }
     if row.len() != rows::Rows::BYTES {
-        return Answer::WrongLength;
+        return Err(Refusal::WrongLength);
     }
     if grants.len() != grants::Grants::BYTES {
-        return Answer::WrongLength;
+        return Err(Refusal::WrongLength);
     }
     if loans.len() != loans::Loans::WORDS {
-        return Answer::WrongLength;
+        return Err(Refusal::WrongLength);
     }
-    lists::fresh(list);
-    rows::fresh(row);
+    lists::fresh(list)?;
+    rows::fresh(row)?;
     chains::fresh(grants, loans)
 }
 
