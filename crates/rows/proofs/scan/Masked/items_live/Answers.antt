@@ -1,0 +1,9 @@
+-- A row has one byte for each item, and a mask hides it where the item lives and shows it whole where it is dead; so nothing of the
+-- eight rows is shown exactly where they have rights on living items only (`items_pass`).
+use native.Mathlib.Omega.{arith}
+use Rattle.rows.proofs.Scans.{items_pass}
+use Rattle.rows.proofs.scan.Masked.items_live.Goals as goal
+
+pub returns : goal.returns
+returns c =
+    items_pass c.args.self.now.image.now (let x = {! c.type_inv !} in λ i. ?) c.args.k c.args.self.now.masks _ c.args.self.now.of c.hides.ensures
