@@ -2,7 +2,7 @@
 ghost use Rattle.std.specs.Prelude.{◌≡◌, ◌+◌, ◌*◌, ◌%◌, ◌<◌, length};
 ghost use Rattle.bits.specs.Zeros.{zeroed, spaced, with_bits, chosen};
 
-use crate::{byte, word};
+use crate::Word;
 
 // `count` bytes: the one at `at`, and each `step` further. A helper for the units above: they know that the last is in the image.
 pub fn clear_each(image: &mut [u8], at: usize, step: usize, count: usize)
@@ -22,6 +22,6 @@ pub fn set_each(image: &mut [u8], at: usize, step: usize, set: u64, b: u32)
 {
     for i in 0..64 {
         let byte = &mut image[at + step * i as usize];
-        *byte = byte::with_if(*byte, b, word::has(set, i));
+        *byte = byte.with_if(b, set.has(i));
     }
 }
