@@ -4,6 +4,7 @@ pub mod Sweep
 pub mod Strides
 pub mod Bits
 pub mod Eight
+pub mod Made
 pub mod Members
 pub mod Lowest
 pub mod Scan
