@@ -5,6 +5,7 @@ pub mod Strides
 pub mod Bits
 pub mod Eight
 pub mod Made
+pub mod Chains
 pub mod Members
 pub mod Lowest
 pub mod Scan
