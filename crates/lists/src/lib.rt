@@ -13,7 +13,7 @@ ghost use Rattle.std.proofs.Common.{rules};
 ghost use Rattle.layouts.proofs.Layouts.{lists-cells};
 ghost use Rattle.layouts.proofs.Edits.{lists-flat};
 
-use bits::{word, words};
+use bits::{Word, words};
 use layouts::flat::FlatUnit;
 use model::{Item, ItemSet, Right};
 
@@ -50,11 +50,11 @@ impl FlatUnit<{ Lists::WORDS }> for Lists {
     }
 
     fn in_order(image: &[u64; Lists::WORDS]) -> bool {
-        word::has(image[0], 0) && items_ok(image)
+        image[0].has(0) && items_ok(image)
     }
 
     fn lives(image: &[u64; Lists::WORDS], i: Item) -> bool {
-        word::has(image[0], i.number())
+        image[0].has(i.number())
     }
 
     fn are_live(image: &[u64; Lists::WORDS], set: ItemSet) -> bool {
@@ -62,7 +62,7 @@ impl FlatUnit<{ Lists::WORDS }> for Lists {
     }
 
     fn holds(image: &[u64; Lists::WORDS], who: Item, on: Item, right: Right) -> bool {
-        word::has(image[place(on, right)], who.number())
+        image[place(on, right)].has(who.number())
     }
 
     fn persons(image: &[u64; Lists::WORDS]) -> u64 {
@@ -71,7 +71,7 @@ impl FlatUnit<{ Lists::WORDS }> for Lists {
 
     // The item's bit of the live set, then the grant.
     fn put_item(image: &mut [u64; Lists::WORDS], by: Item, on: Item) {
-        image[0] = word::with(image[0], on.number());
+        image[0] = image[0].with(on.number());
         Lists::put_grant(image, by, on, Right::edit());
     }
 
@@ -85,7 +85,7 @@ impl FlatUnit<{ Lists::WORDS }> for Lists {
     // The person onto the list.
     fn put_grant(image: &mut [u64; Lists::WORDS], to: Item, on: Item, right: Right) {
         let at = place(on, right);
-        image[at] = word::with(image[at], to.number());
+        image[at] = image[at].with(to.number());
     }
 
     // Every member of the set onto the list.
@@ -97,7 +97,7 @@ impl FlatUnit<{ Lists::WORDS }> for Lists {
     // The person off the list.
     fn drop_grant(image: &mut [u64; Lists::WORDS], to: Item, on: Item, right: Right) {
         let at = place(on, right);
-        image[at] = word::without(image[at], to.number());
+        image[at] = image[at].without(to.number());
     }
 
     ghost lengths = { λ s. refl };
@@ -136,11 +136,7 @@ fn misplaced(image: &[u64; Lists::WORDS], on: u32) -> u64
     let live = image[0];
     let at = 1 + 8 * on as usize;
     let all = union(&image[at..at + 8]);
-    if word::has(live, on) {
-        all & !live
-    } else {
-        all
-    }
+    if live.has(on) { all & !live } else { all }
 }
 
 // Every item, with one test at the end.
@@ -159,6 +155,6 @@ fn drop_name(image: &mut [u64], i: Item)
     ensures { image.new ≡ swept (λ k w. without_bit w (i.0 % 64)) image.old }
 {
     for w in image.iter_mut() {
-        *w = word::without(*w, i.number());
+        *w = w.without(i.number());
     }
 }

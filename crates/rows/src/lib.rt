@@ -9,7 +9,7 @@ ghost use Rattle.layouts.specs.Layouts.{rows, row_bytes, fresh_image};
 ghost use Rattle.layouts.proofs.Layouts.{rows-cells};
 ghost use Rattle.layouts.proofs.Edits.{rows-flat};
 
-use bits::{byte, bytes};
+use bits::{Word, bytes};
 use layouts::flat::FlatUnit;
 use layouts::live;
 use model::{Item, ItemSet, Right};
@@ -49,7 +49,7 @@ impl FlatUnit<{ Rows::BYTES }> for Rows {
     }
 
     fn in_order(image: &[u8; Rows::BYTES]) -> bool {
-        byte::has(image[0], 0) && scan::rows_ok(image)
+        image[0].has(0) && scan::rows_ok(image)
     }
 
     fn lives(image: &[u8; Rows::BYTES], i: Item) -> bool {
@@ -61,7 +61,7 @@ impl FlatUnit<{ Rows::BYTES }> for Rows {
     }
 
     fn holds(image: &[u8; Rows::BYTES], who: Item, on: Item, right: Right) -> bool {
-        byte::has(image[place(who, on)], right.number())
+        image[place(who, on)].has(right.number())
     }
 
     fn persons(image: &[u8; Rows::BYTES]) -> u64 {
@@ -84,7 +84,7 @@ impl FlatUnit<{ Rows::BYTES }> for Rows {
     // The right into the person's row.
     fn put_grant(image: &mut [u8; Rows::BYTES], to: Item, on: Item, right: Right) {
         let at = place(to, on);
-        image[at] = byte::with(image[at], right.number());
+        image[at] = image[at].with(right.number());
     }
 
     // The right into the row of every member of the set: one byte in each row.
@@ -96,7 +96,7 @@ impl FlatUnit<{ Rows::BYTES }> for Rows {
     // The right out of the person's row.
     fn drop_grant(image: &mut [u8; Rows::BYTES], to: Item, on: Item, right: Right) {
         let at = place(to, on);
-        image[at] = byte::without(image[at], right.number());
+        image[at] = image[at].without(right.number());
     }
 
     ghost lengths = { λ s. refl };

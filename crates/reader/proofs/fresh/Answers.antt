@@ -17,4 +17,4 @@ returns-then-loans-ne-WORDS c = start-refused _ (λ e. c.if-loans-ne-WORDS.true 
 
 pub returns : goal.returns
 returns c =
-    start_done _ (c.if-list-ne-WORDS.false, c.if-row-ne-BYTES.false, c.if-grants-ne-BYTES.false, c.if-loans-ne-WORDS.false) _ _ _ _ _ _ _ c.fresh.ensures c.fresh-2.ensures c.fresh-3.ensures
+    start_done _ (c.if-list-ne-WORDS.false, c.if-row-ne-BYTES.false, c.if-grants-ne-BYTES.false, c.if-loans-ne-WORDS.false) _ _ _ _ _ _ _ c.freshen.ensures c.freshen-2.ensures c.fresh.ensures

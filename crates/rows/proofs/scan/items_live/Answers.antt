@@ -2,8 +2,8 @@
 -- eight rows is shown exactly where they have rights on living items only (`items_pass`).
 use native.Mathlib.Omega.{arith}
 use Rattle.rows.proofs.Scans.{items_pass}
-use Rattle.rows.proofs.scan.Masked.items_live.Goals as goal
+use Rattle.rows.proofs.scan.items_live.Goals as goal
 
 pub returns : goal.returns
 returns c =
-    items_pass c.args.self.now.image.now (let x = {! c.type_inv !} in λ i. ?) c.args.k c.args.self.now.masks _ c.args.self.now.of c.hides.ensures
+    items_pass c.args.image.now (λ i. omega (arith, c.fits-image i)) c.args.k c.args.masks.now _ c.requires.1 c.hides.ensures
