@@ -16,7 +16,7 @@ ghost use Rattle.layouts.specs.Subjects.{Tells};
 ghost use Rattle.layouts.specs.Order.{block_ok};
 ghost use Rattle.bits.specs.Zeros.{swept};
 
-use bits::{word, words};
+use bits::{words, Word};
 use layouts::admit;
 use layouts::admit::{CheckAdmission, CommandAdmission};
 use model::{
@@ -77,7 +77,7 @@ fn misplaced(image: &[u64], on: u32) -> u64
     let at = 1 + 8 * on as usize;
     let end = at + 8;
     let all = union(&image[at..end]);
-    if word::has(live, on) {
+    if live.has(on) {
         return all & !live;
     }
     all
@@ -103,7 +103,7 @@ fn in_order(image: &[u64]) -> bool
     requires { length image.now ≡ list_words }
     ensures { result ≡ is_in_order lists image.now }
 {
-    if !word::has(image[0], 0) {
+    if !image[0].has(0) {
         return false;
     }
     items_ok(image)
@@ -127,7 +127,7 @@ fn lives(image: &[u64], i: Item) -> bool
     requires { (length image.now ≡ list_words) × (i.0 < 64) }
     ensures { result ≡ live_in lists image.now i.0 }
 {
-    word::has(image[0], i.number())
+    image[0].has(i.number())
 }
 
 // Whether every member of the set lives.
@@ -152,7 +152,7 @@ fn holds(image: &[u64], who: Item, on: Item, right: Right) -> bool
     ensures { result ≡ held lists image.now who.0 on.0 right.0 }
 {
     let at = place(on, right);
-    word::has(image[at], who.number())
+    image[at].has(who.number())
 }
 
 // What the table asks of this image.
@@ -183,7 +183,7 @@ fn put_grant(image: &mut [u64], to: Item, on: Item, right: Right)
     ensures { image.new ≡ allowed lists image.old (grant to.0 on.0 right.0 0) }
 {
     let at = place(on, right);
-    image[at] = word::with(image[at], to.number());
+    image[at] = image[at].with(to.number());
 }
 
 // Every member of the set onto the list.
@@ -201,7 +201,7 @@ fn drop_grant(image: &mut [u64], to: Item, on: Item, right: Right)
     ensures { image.new ≡ withdrawn lists image.old to.0 on.0 right.0 }
 {
     let at = place(on, right);
-    image[at] = word::without(image[at], to.number());
+    image[at] = image[at].without(to.number());
 }
 
 // The item's bit of the live set, then an edit grant on it to its creator.
@@ -209,7 +209,7 @@ fn put_item(image: &mut [u64], by: Item, on: Item)
     requires { (length image.old ≡ list_words) × (by.0 < 64) × (on.0 < 64) }
     ensures { image.new ≡ created lists image.old by.0 on.0 }
 {
-    image[0] = word::with(image[0], on.number());
+    image[0] = image[0].with(on.number());
     put_grant(image, by, on, Right::edit());
 }
 
@@ -219,7 +219,7 @@ fn drop_name(image: &mut [u64], i: Item)
 {
     let mut at: usize = 0;
     while at < image.len() {
-        image[at] = word::without(image[at], i.number());
+        image[at] = image[at].without(i.number());
         at += 1;
     }
 }

@@ -12,7 +12,7 @@ ghost use Rattle.layouts.specs.Machine.{Judged, Ran, Offers};
 ghost use Rattle.layouts.specs.Layouts.{rows, row_bytes, held, guarded, facts_of, created, deleted, allowed, allowed_set, withdrawn, after, flat_unit, Inspects, Checks, fresh_image, Freshens};
 ghost use Rattle.layouts.specs.Subjects.{Tells};
 
-use bits::{byte, bytes};
+use bits::{bytes, Word};
 use layouts::admit::{CheckAdmission, CommandAdmission};
 use layouts::{admit, live};
 use model::{
@@ -80,7 +80,7 @@ fn holds(image: &[u8], who: Item, on: Item, right: Right) -> bool
     ensures { result ≡ held rows image.now who.0 on.0 right.0 }
 {
     let at = place(who, on);
-    byte::has(image[at], right.number())
+    image[at].has(right.number())
 }
 
 // What the table asks of this image.
@@ -111,7 +111,7 @@ fn put_grant(image: &mut [u8], to: Item, on: Item, right: Right)
     ensures { image.new ≡ allowed rows image.old (grant to.0 on.0 right.0 0) }
 {
     let at = place(to, on);
-    image[at] = byte::with(image[at], right.number());
+    image[at] = image[at].with(right.number());
 }
 
 // The right into the row of every member of the set: one byte in each row.
@@ -129,7 +129,7 @@ fn drop_grant(image: &mut [u8], to: Item, on: Item, right: Right)
     ensures { image.new ≡ withdrawn rows image.old to.0 on.0 right.0 }
 {
     let at = place(to, on);
-    image[at] = byte::without(image[at], right.number());
+    image[at] = image[at].without(right.number());
 }
 
 // The item into the live set, then an edit grant on it to its creator.

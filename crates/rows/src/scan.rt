@@ -7,7 +7,7 @@ ghost use Rattle.layouts.specs.Live.{masks_of};
 ghost use Rattle.bits.specs.Bits.{or_below};
 ghost use Rattle.layouts.specs.Order.{block_ok, items_ok, persons_ok};
 
-use bits::{byte, word};
+use bits::Word;
 use layouts::live;
 
 // Whether the rows of the eight persons from 8 * k on have rights on living items only.
@@ -90,7 +90,7 @@ pub(crate) fn in_order(image: &[u8]) -> bool
     requires { length image.now ≡ row_bytes }
     ensures { result ≡ is_in_order rows image.now }
 {
-    if !byte::has(image[0], 0) {
+    if !image[0].has(0) {
         return false;
     }
     rows_ok(image)
@@ -115,7 +115,7 @@ pub(crate) fn subjects(image: &[u8]) -> u64
     let mut who: u32 = 0;
     while who < 64 {
         let holds = holds_any(image, who as usize);
-        set = word::with_if(set, who, holds);
+        set = set.with_if(who, holds);
         who += 1;
     }
     set
