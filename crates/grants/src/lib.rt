@@ -51,10 +51,7 @@ pub fn in_order(grants: &[u8], masks: &[u8; 64]) -> bool
     requires { (length grants.now ≡ grant_cells) × (masks.now ≡ masks_of grants.now) }
     ensures { result ≡ is_in_order grant_bytes grants.now }
 {
-    if !grants[0].has(0) {
-        return false;
-    }
-    scan::items_ok(grants, masks)
+    grants[0].has(0) && scan::items_ok(grants, masks)
 }
 
 // Where the byte of a person, an item and a right stands.
