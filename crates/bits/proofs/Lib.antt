@@ -3,6 +3,9 @@ pub mod Indexed
 pub mod Sweep
 pub mod Strides
 pub mod Bits
+pub mod Eight
+pub mod Made
+pub mod Chains
 pub mod Members
 pub mod Lowest
 pub mod Scan

@@ -2,7 +2,8 @@
 
 #![tactic(auto)]
 
-pub mod byte;
+pub use crate::word::Word;
+
 pub mod bytes;
-pub mod word;
+mod word;
 pub mod words;

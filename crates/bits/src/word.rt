@@ -1,32 +1,90 @@
-// The bits of a word of 64. An index counts within the word, whatever its size (`i % 64`), so each function takes any number:
-// a caller with i below 64 loses nothing, and one that counts bits through a whole image need not reduce its index first.
-ghost use Rattle.std.specs.Prelude.{◌≡◌, cond, ◌%◌};
+// The bits of a number of at most 64. An index counts within the number, whatever its size (`i % WIDTH`), so each method takes any:
+// a caller with i below the width loses nothing, and one that counts bits through a whole image need not reduce its index first.
+ghost use Rattle.std.specs.Prelude.{◌≡◌, cond, ℕ, ◌%◌, ◌^◌, ◌<◌, ◌≤◌};
 ghost use Rattle.bits.specs.Bits.{bit, with_bit, without_bit};
+ghost use Rattle.std.proofs.Common.{rules};
 
-pub fn has(w: u64, i: u32) -> bool
-    ensures { result ≡ bit w (i % 64) }
-{
-    (w >> (i % 64)) & 1 == 1
-}
+pub trait Word: Copy {
+    const WIDTH: u32;
 
-pub fn with(w: u64, i: u32) -> u64
-    ensures { result ≡ with_bit w (i % 64) }
-{
-    w | (1u64 << (i % 64))
-}
+    ghost WIDTH: { ℕ };
 
-// w, with bit i too where it is to be set.
-pub fn with_if(w: u64, i: u32, set: bool) -> u64
-    ensures { result ≡ cond set (with_bit w (i % 64)) w }
-{
-    if set {
-        return with(w, i);
+    ghost value: { Self → ℕ };
+
+    // The number as one of 64 bits, and back.
+    fn widen(self) -> u64
+        ensures { (result ≡ value self) × (result < 2 ^ WIDTH) };
+
+    fn narrow(w: u64) -> Self
+        ensures { w < 2 ^ WIDTH → value result ≡ w };
+
+    fn has(self, i: u32) -> bool
+        ensures { result ≡ bit (value self) (i % WIDTH) }
+    {
+        (self.widen() >> (i % Self::WIDTH)) & 1 == 1
     }
-    w
+
+    fn with(self, i: u32) -> Self
+        ensures { value result ≡ with_bit (value self) (i % WIDTH) }
+    {
+        Self::narrow(self.widen() | (1 << (i % Self::WIDTH)))
+    }
+
+    // The number, with bit i too where it is to be set.
+    fn with_if(self, i: u32, set: bool) -> Self
+        ensures { value result ≡ cond set (with_bit (value self) (i % WIDTH)) (value self) }
+    {
+        if set { self.with(i) } else { self }
+    }
+
+    fn without(self, i: u32) -> Self
+        ensures { value result ≡ without_bit (value self) (i % WIDTH) }
+    {
+        Self::narrow(self.widen() & !(1 << (i % Self::WIDTH)))
+    }
+
+    // A shift by an index within the number is one of a `u64`.
+    ghost some: { 0 < WIDTH };
+
+    ghost fits: { WIDTH ≤ 64 };
 }
 
-pub fn without(w: u64, i: u32) -> u64
-    ensures { result ≡ without_bit w (i % 64) }
-{
-    w & !(1u64 << (i % 64))
+impl Word for u8 {
+    const WIDTH: u32 = 8;
+
+    ghost WIDTH = { 8 };
+
+    ghost value = { λ w. w };
+
+    fn widen(self) -> u64 {
+        u64::from(self)
+    }
+
+    fn narrow(w: u64) -> u8 {
+        (w & 0xff) as u8
+    }
+
+    ghost some = { Prim.search rules };
+
+    ghost fits = { Prim.search rules };
+}
+
+impl Word for u64 {
+    const WIDTH: u32 = 64;
+
+    ghost WIDTH = { 64 };
+
+    ghost value = { λ w. w };
+
+    fn widen(self) -> u64 {
+        self
+    }
+
+    fn narrow(w: u64) -> u64 {
+        w
+    }
+
+    ghost some = { Prim.search rules };
+
+    ghost fits = { Prim.search rules };
 }

@@ -12,6 +12,7 @@ ghost use Rattle.layouts.specs.Convert.{convert, Converts};
 ghost use Rattle.convert.specs.Blocks.{lacking, ahead, full_on, stage};
 
 use bits::{byte, bytes, word, words};
+use layouts::flat::FlatUnit;
 use lists::Lists;
 use model::Answer;
 use rows::Rows;
@@ -137,7 +138,7 @@ pub fn to_rows(source: &[u64], target: &mut [u8]) -> Answer
     if target.len() != Rows::BYTES {
         return Answer::WrongLength;
     }
-    let a = lists::inspect(source);
+    let a = Lists::inspect(source);
     if a.number() != 0 {
         return a;
     }
@@ -206,7 +207,7 @@ pub fn to_lists(source: &[u8], target: &mut [u64]) -> Answer
     if target.len() != Lists::WORDS {
         return Answer::WrongLength;
     }
-    let a = rows::inspect(source);
+    let a = Rows::inspect(source);
     if a.number() != 0 {
         return a;
     }

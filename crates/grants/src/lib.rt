@@ -9,7 +9,7 @@ ghost use Rattle.model.specs.Journal.{grant};
 ghost use Rattle.layouts.specs.Live.{masks_of};
 ghost use Rattle.layouts.specs.Layouts.{grant_bytes, grant_cells, held, is_in_order, created, deleted, allowed, allowed_set, dropped, withdrawn, fresh_image, fresh_of};
 
-use bits::{byte, bytes};
+use bits::{bytes, Word};
 use layouts::live;
 use model::{Depth, Item, ItemSet, Right};
 
@@ -51,10 +51,7 @@ pub fn in_order(grants: &[u8], masks: &[u8; 64]) -> bool
     requires { (length grants.now ≡ grant_cells) × (masks.now ≡ masks_of grants.now) }
     ensures { result ≡ is_in_order grant_bytes grants.now }
 {
-    if !byte::has(grants[0], 0) {
-        return false;
-    }
-    scan::items_ok(grants, masks)
+    grants[0].has(0) && scan::items_ok(grants, masks)
 }
 
 // Where the byte of a person, an item and a right stands.
@@ -79,7 +76,7 @@ pub fn put_grant(grants: &mut [u8], to: Item, on: Item, right: Right, depth: Dep
     ensures { grants.new ≡ allowed grant_bytes grants.old (grant to.0 on.0 right.0 depth.0) }
 {
     let at = place(to, on, right);
-    grants[at] = byte::with(grants[at], depth.number());
+    grants[at] = grants[at].with(depth.number());
 }
 
 // The depth to every member of the set: their bytes stand side by side.
@@ -97,7 +94,7 @@ pub fn drop_grant(grants: &mut [u8], to: Item, on: Item, right: Right, depth: De
     ensures { grants.new ≡ dropped grant_bytes grants.old (grant to.0 on.0 right.0 depth.0) }
 {
     let at = place(to, on, right);
-    grants[at] = byte::without(grants[at], depth.number());
+    grants[at] = grants[at].without(depth.number());
 }
 
 // Every depth ends: the eight drops in one write.

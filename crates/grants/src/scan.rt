@@ -21,12 +21,5 @@ pub fn items_ok(grants: &[u8], masks: &[u8; 64]) -> bool
     requires { (length grants.now ≡ grant_cells) × (masks.now ≡ masks_of grants.now) }
     ensures { result ≡ all_below 64 (block_ok grant_bytes grants.now 4096) }
 {
-    let mut on: usize = 0;
-    while on < 64 {
-        if !item_ok(grants, on, masks) {
-            return false;
-        }
-        on += 1;
-    }
-    true
+    (0..64).all(|on| item_ok(grants, on, masks))
 }

@@ -274,3 +274,11 @@ place_same g h r k =
     (eq-eqb _ _ (sym (bytes_laws.right_of g r) ∙ ap grant_bytes.right (sym q) ∙ bytes_laws.right_of h k)))
     (eq-eqb _ _ (sym (depth_of_lem g r) ∙ ap (λ (n : ℕ). n % 8) (sym q) ∙ depth_of_lem h k)))
     (λ e. eq-eqb _ _ (ap grant_bytes.place (sym (same_grant_lem g h e))))
+
+pub lists-cells : lists.cells ≡ 513
+unfolding lists
+lists-cells = refl
+
+pub rows-cells : rows.cells ≡ 4104
+unfolding rows
+rows-cells = refl

@@ -4,4 +4,5 @@
 #![tactic(auto)]
 
 pub mod admit;
+pub mod flat;
 pub mod live;

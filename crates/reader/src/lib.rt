@@ -6,9 +6,12 @@ ghost use Rattle.lines.specs.declared.Parsed.TheVariants.{Run, Ask};
 ghost use Rattle.output.specs.Output.{lent_buffer};
 ghost use Rattle.reader.specs.Replies.{units_in, Replies, Starts};
 
+use layouts::flat::FlatUnit;
 use lines::Parsed;
+use lists::Lists;
 use model::{Command, Refusal};
 use output::reply::Reply;
+use rows::Rows;
 
 // A reply, and the chain buffer after the line.
 #[derive(Clone, Copy)]
@@ -22,10 +25,10 @@ pub fn fresh(list: &mut [u64], row: &mut [u8], grants: &mut [u8], loans: &mut [u
     ensures { Starts (units_in list.old row.old grants.old loans.old) result
         (units_in list.new row.new grants.new loans.new) }
 {
-    if list.len() != lists::Lists::WORDS {
+    if list.len() != Lists::WORDS {
         return Err(Refusal::WrongLength);
     }
-    if row.len() != rows::Rows::BYTES {
+    if row.len() != Rows::BYTES {
         return Err(Refusal::WrongLength);
     }
     if grants.len() != grants::Grants::BYTES {
@@ -34,8 +37,8 @@ pub fn fresh(list: &mut [u64], row: &mut [u8], grants: &mut [u8], loans: &mut [u
     if loans.len() != loans::Loans::WORDS {
         return Err(Refusal::WrongLength);
     }
-    lists::fresh(list)?;
-    rows::fresh(row)?;
+    Lists::freshen(list)?;
+    Rows::freshen(row)?;
     chains::fresh(grants, loans)
 }
 
@@ -50,8 +53,8 @@ fn run_command(
     ensures { Replies (units_in list.old row.old grants.old loans.old) (Run c) result
         lent_buffer (units_in list.new row.new grants.new loans.new) }
 {
-    let l = lists::offer(list, c);
-    let r = rows::offer(row, c);
+    let l = Lists::offer(list, c);
+    let r = Rows::offer(row, c);
     let a = chains::offer(grants, loans, c);
     Reply::of_command(c, l, r, a)
 }
@@ -70,8 +73,8 @@ fn run_check(
         (Ask who on right) result.reply result.via (units_in list.now row.now grants.now loans.now) }
 {
     let mut via = [0u8; 8];
-    let l = lists::check(list, who, on, right);
-    let r = rows::check(row, who, on, right);
+    let l = Lists::check(list, who, on, right);
+    let r = Rows::check(row, who, on, right);
     let c = chains::check(grants, loans, who, on, right, &mut via);
     let reply = Reply::of_check(l, r, c);
     Replied { reply, via }

@@ -8,7 +8,7 @@ ghost use Rattle.ticketing.specs.Machine.{vacant};
 ghost use Rattle.ticketing.specs.Image.{ticket_at};
 ghost use Rattle.records.specs.Records.{places_for, reading_of, inquiry_of, found_of};
 
-use bits::word;
+use bits::Word;
 use model::Question;
 use ticketing::Ticket;
 
@@ -150,7 +150,7 @@ pub fn look(q: Inquiry, found: u32, t: Ticket) -> u32
     if t.right as u32 != q.right {
         return found;
     }
-    if !word::has(t.holders, q.who) {
+    if !t.holders.has(q.who) {
         return found;
     }
     1

@@ -4,12 +4,14 @@ ghost use Rattle.layouts.specs.Layouts.{lists, flat_unit};
 ghost use Rattle.rights_c.specs.Exports.{Gives, Freshens, Answers, Subjects, Inspects};
 
 use crate::reply;
+use layouts::flat::FlatUnit;
+use lists::Lists;
 
 #[unsafe(no_mangle)]
 pub extern "C" fn rights_lists_fresh(image: &mut [u64]) -> u32
     ensures { Freshens lists image.old result image.new }
 {
-    let a = lists::fresh(image);
+    let a = Lists::freshen(image);
     a.number()
 }
 
@@ -17,7 +19,7 @@ pub extern "C" fn rights_lists_fresh(image: &mut [u64]) -> u32
 pub extern "C" fn rights_lists_create(image: &mut [u64], by: u32, on: u32) -> u32
     ensures { Gives (flat_unit lists) image.old (Create by on) result image.new }
 {
-    let a = lists::create(image, by, on);
+    let a = Lists::create(image, by, on);
     a.number()
 }
 
@@ -25,7 +27,7 @@ pub extern "C" fn rights_lists_create(image: &mut [u64], by: u32, on: u32) -> u3
 pub extern "C" fn rights_lists_delete(image: &mut [u64], by: u32, on: u32) -> u32
     ensures { Gives (flat_unit lists) image.old (Delete by on) result image.new }
 {
-    let a = lists::delete(image, by, on);
+    let a = Lists::delete(image, by, on);
     a.number()
 }
 
@@ -40,7 +42,7 @@ pub extern "C" fn rights_lists_allow(
 ) -> u32
     ensures { Gives (flat_unit lists) image.old (Allow by to on right depth) result image.new }
 {
-    let a = lists::allow(image, by, to, on, right, depth);
+    let a = Lists::allow(image, by, to, on, right, depth);
     a.number()
 }
 
@@ -55,7 +57,7 @@ pub extern "C" fn rights_lists_allow_set(
 ) -> u32
     ensures { Gives (flat_unit lists) image.old (AllowSet by set on right depth) result image.new }
 {
-    let a = lists::allow_set(image, by, set, on, right, depth);
+    let a = Lists::allow_set(image, by, set, on, right, depth);
     a.number()
 }
 
@@ -69,7 +71,7 @@ pub extern "C" fn rights_lists_withdraw(
 ) -> u32
     ensures { Gives (flat_unit lists) image.old (Withdraw by to on right) result image.new }
 {
-    let a = lists::withdraw(image, by, to, on, right);
+    let a = Lists::withdraw(image, by, to, on, right);
     a.number()
 }
 
@@ -83,7 +85,7 @@ pub extern "C" fn rights_lists_check(
 ) -> u32
     ensures { Answers lists image.now who on right result yes.new image.now }
 {
-    let c = lists::check(image, who, on, right);
+    let c = Lists::check(image, who, on, right);
     *yes = reply::checked_yes(c);
     reply::checked_number(c)
 }
@@ -92,7 +94,7 @@ pub extern "C" fn rights_lists_check(
 pub extern "C" fn rights_lists_subjects(image: &[u64], persons: &mut u64) -> u32
     ensures { Subjects lists image.now result persons.new image.now }
 {
-    let s = lists::subjects(image);
+    let s = Lists::subjects(image);
     *persons = s.persons;
     let a = s.answer;
     a.number()
@@ -102,6 +104,6 @@ pub extern "C" fn rights_lists_subjects(image: &[u64], persons: &mut u64) -> u32
 pub extern "C" fn rights_lists_inspect(image: &[u64]) -> u32
     ensures { Inspects lists image.now result image.now }
 {
-    let a = lists::inspect(image);
+    let a = Lists::inspect(image);
     a.number()
 }

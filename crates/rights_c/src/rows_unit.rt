@@ -4,12 +4,14 @@ ghost use Rattle.layouts.specs.Layouts.{rows, flat_unit};
 ghost use Rattle.rights_c.specs.Exports.{Gives, Freshens, Answers, Subjects, Inspects};
 
 use crate::reply;
+use layouts::flat::FlatUnit;
+use rows::Rows;
 
 #[unsafe(no_mangle)]
 pub extern "C" fn rights_rows_fresh(image: &mut [u8]) -> u32
     ensures { Freshens rows image.old result image.new }
 {
-    let a = rows::fresh(image);
+    let a = Rows::freshen(image);
     a.number()
 }
 
@@ -17,7 +19,7 @@ pub extern "C" fn rights_rows_fresh(image: &mut [u8]) -> u32
 pub extern "C" fn rights_rows_create(image: &mut [u8], by: u32, on: u32) -> u32
     ensures { Gives (flat_unit rows) image.old (Create by on) result image.new }
 {
-    let a = rows::create(image, by, on);
+    let a = Rows::create(image, by, on);
     a.number()
 }
 
@@ -25,7 +27,7 @@ pub extern "C" fn rights_rows_create(image: &mut [u8], by: u32, on: u32) -> u32
 pub extern "C" fn rights_rows_delete(image: &mut [u8], by: u32, on: u32) -> u32
     ensures { Gives (flat_unit rows) image.old (Delete by on) result image.new }
 {
-    let a = rows::delete(image, by, on);
+    let a = Rows::delete(image, by, on);
     a.number()
 }
 
@@ -40,7 +42,7 @@ pub extern "C" fn rights_rows_allow(
 ) -> u32
     ensures { Gives (flat_unit rows) image.old (Allow by to on right depth) result image.new }
 {
-    let a = rows::allow(image, by, to, on, right, depth);
+    let a = Rows::allow(image, by, to, on, right, depth);
     a.number()
 }
 
@@ -55,7 +57,7 @@ pub extern "C" fn rights_rows_allow_set(
 ) -> u32
     ensures { Gives (flat_unit rows) image.old (AllowSet by set on right depth) result image.new }
 {
-    let a = rows::allow_set(image, by, set, on, right, depth);
+    let a = Rows::allow_set(image, by, set, on, right, depth);
     a.number()
 }
 
@@ -69,7 +71,7 @@ pub extern "C" fn rights_rows_withdraw(
 ) -> u32
     ensures { Gives (flat_unit rows) image.old (Withdraw by to on right) result image.new }
 {
-    let a = rows::withdraw(image, by, to, on, right);
+    let a = Rows::withdraw(image, by, to, on, right);
     a.number()
 }
 
@@ -83,7 +85,7 @@ pub extern "C" fn rights_rows_check(
 ) -> u32
     ensures { Answers rows image.now who on right result yes.new image.now }
 {
-    let c = rows::check(image, who, on, right);
+    let c = Rows::check(image, who, on, right);
     *yes = reply::checked_yes(c);
     reply::checked_number(c)
 }
@@ -92,7 +94,7 @@ pub extern "C" fn rights_rows_check(
 pub extern "C" fn rights_rows_subjects(image: &[u8], persons: &mut u64) -> u32
     ensures { Subjects rows image.now result persons.new image.now }
 {
-    let s = rows::subjects(image);
+    let s = Rows::subjects(image);
     *persons = s.persons;
     let a = s.answer;
     a.number()
@@ -102,6 +104,6 @@ pub extern "C" fn rights_rows_subjects(image: &[u8], persons: &mut u64) -> u32
 pub extern "C" fn rights_rows_inspect(image: &[u8]) -> u32
     ensures { Inspects rows image.now result image.now }
 {
-    let a = rows::inspect(image);
+    let a = Rows::inspect(image);
     a.number()
 }

@@ -110,7 +110,7 @@ module _ (s : List ℕ) (h : (i : ℕ) → get_or s i 0 < 2 ^ 8) where
         (λ o r u v. ap (at 8 s) (let e : (512 * who + (8 * o + r)) / 512 ≡ who = omega arith in e))
         ∙ below_or 64 (λ o. eqb (byte who o) 0) (at 8 s who) ∙ ap (λ x. x || at 8 s who) (sym (or-zero-below 64 (byte who)))
 
-    -- by the person's mask, and v, whether the row has a right
+    -- by the person's mask, and v, whether the person has a right
     module _ (d : List ℕ) (f : d ≡ masks_of s) where
       lives : at 8 s who ≡ eqb (get_or d who 0) 0
       lives = go (at 8 s who) (masks_at s d f who w)
@@ -122,9 +122,9 @@ module _ (s : List ℕ) (h : (i : ℕ) → get_or s i 0 < 2 ^ 8) where
       pub person-lives : get_or d who 0 ≡ 0 → true ≡ persons_ok rows s 512 who
       person-lives z = sym (row-person ∙ rw (lives, eq-eqb _ 0 z) (or-true (eqb (or_below 64 (byte who)) 0)))
 
-      pub person_dead : (v : Bool) → (get_or d who 0 ≡ 0 → ⊥) → v ≡ has_right → not v ≡ persons_ok rows s 512 who
+      pub person_dead : (v : Bool) → (get_or d who 0 ≡ 0 → ⊥) → v ≡ is_subject rows s who → not v ≡ persons_ok rows s 512 who
       person_dead v n q =
-          ap not (q ∙ joined) ∙ twice (eqb (or_below 64 (byte who)) 0)
+          ap not (q ∙ sym (row-holds has_right refl) ∙ joined) ∙ twice (eqb (or_below 64 (byte who)) 0)
           ∙ sym (row-person ∙ rw (lives, ne_eqb _ 0 n) (or-false (eqb (or_below 64 (byte who)) 0)))
         where
           twice : (b : Bool) → not (not b) ≡ b

@@ -14,7 +14,7 @@ ghost use Rattle.ticketing.specs.Image.{ticket_words, word_of, ticket_of, ticket
 ghost use Rattle.ticketing.specs.Unit.{guarded, Judged, Ran, Generates, Inspects, Checks, fresh_image, Freshens};
 ghost use Rattle.tickets.specs.Places.{key_of, held_for, place_of, is_free, live_numbers, Ready, Issued, JudgedGenerate, placed, placed_ticket, Visited};
 
-use bits::{word, words};
+use bits::{words, Word};
 use layouts::admit;
 use layouts::admit::CheckAdmission;
 use model::{Answer, Checked, Item, Right};
@@ -98,7 +98,7 @@ fn is_sound(w: u64, h: u64, live: u64, next: u64) -> bool
         & ((w >> 40) % 256 <= Right::MAX as u64)
         & (w >> 48 <= Item::MAX as u64)
         & (item <= Item::MAX as u64)
-        & word::has(live, item as u32)
+        & live.has(item as u32)
         & (h & !live == 0)
 }
 
@@ -172,7 +172,7 @@ fn in_order(image: &[u64]) -> bool
     requires { length image.now ≡ ticket_words }
     ensures { result ≡ is_in_order (machine_of image.now) }
 {
-    if !word::has(image[0], 0) {
+    if !image[0].has(0) {
         return false;
     }
     if image[1] > Tickets::LAST {
@@ -199,7 +199,7 @@ fn is_live(image: &[u64], i: Item) -> bool
     requires { (length image.now ≡ ticket_words) × (i.0 < 64) }
     ensures { result ≡ lives (machine_of image.now) i.0 }
 {
-    word::has(image[0], i.number())
+    image[0].has(i.number())
 }
 
 // Whether the ticket at that place is for the item and right of the key, and the person holds it.
@@ -210,7 +210,7 @@ fn is_held(image: &[u64], k: usize, who: Item, key: u64) -> bool
     if (record_at(image, k) >> 32) % 65536 != key {
         return false;
     }
-    word::has(holders_at(image, k), who.number())
+    holders_at(image, k).has(who.number())
 }
 
 // Whether the person holds a ticket for the item and right of the key.
@@ -312,7 +312,7 @@ fn put_ticket(image: &mut [u64], place: usize, by: Item, on: Item, right: Right)
 {
     let number = image[1];
     let w = record_of(number, on, right, by);
-    let h = word::with(0, by.number());
+    let h = 0u64.with(by.number());
     put_record(image, place, w, h);
     image[1] = number + 1;
 }
@@ -333,7 +333,7 @@ fn make(image: &mut [u64], by: Item, on: Item) -> Answer
     if a.number() != 0 {
         return a;
     }
-    image[0] = word::with(image[0], on.number());
+    image[0] = image[0].with(on.number());
     put_ticket(image, place, by, on, Right::edit());
     a
 }
@@ -388,10 +388,10 @@ fn add_holder(image: &mut [u64], by: Item, to: Item, number: u32) -> Answer
     }
     let w = record_at(image, place);
     let h = holders_at(image, place);
-    if !word::has(h, by.number()) {
+    if !h.has(by.number()) {
         return Answer::NoTicket;
     }
-    put_record(image, place, w, word::with(h, to.number()));
+    put_record(image, place, w, h.with(to.number()));
     Answer::Done
 }
 
@@ -425,7 +425,7 @@ fn drop_at(image: &mut [u64], k: usize, on: Item)
     if (w | before) == 0 {
         return;
     }
-    let h = word::without(before, on.number());
+    let h = before.without(on.number());
     if ((w >> 32) % 256 == on.number() as u64) | (h == 0) {
         put_record(image, k, 0, 0);
         return;
@@ -463,7 +463,7 @@ fn drop_item(image: &mut [u64], by: Item, on: Item) -> Answer
     if !is_holder(image, by, on, Right::edit()) {
         return Answer::NoTicket;
     }
-    image[0] = word::without(image[0], on.number());
+    image[0] = image[0].without(on.number());
     drop_all(image, on);
     Answer::Done
 }

@@ -1,6 +1,5 @@
 -- After n turns the bits gathered are 0 exactly where the lists of the first n items are in order (`scan_more`); at the end n is 64.
-use mathlib.Core.Path.{◌≡◌, sym}
-use native.Mathlib.Omega.{arith}
+use mathlib.Core.Path.{sym}
 use borrow.Author.Rules.{rules}
 use Rattle.bits.proofs.Indexed.{below_none}
 use Rattle.bits.proofs.Scan.{scan_more}
@@ -10,10 +9,7 @@ pub loop-on-init : goal.loop-on-init
 loop-on-init c = (search rules, sym (below_none _))
 
 pub loop-on-preserved : goal.loop-on-preserved
-loop-on-preserved c =
-    (search rules, scan_more c.loop-on.bad c.misplaced-more.result c.loop-on.on _ c.loop-on.invariant.1 c.misplaced-more.ensures)
-
-pub returns : goal.returns
-returns c =
-    let e : c.loop-on.on ≡ 64 = omega arith in
-    rw e at c.loop-on.invariant.1
+loop-on-preserved c = (
+  search rules,
+  scan_more c.loop-on.bad c.misplaced-bad.result c.loop-on.on _ c.loop-on.invariant.1 c.misplaced-bad.ensures,
+)

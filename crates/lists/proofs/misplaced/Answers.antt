@@ -10,12 +10,12 @@ use Rattle.lists.proofs.misplaced.Goals as goal
 pub returns-then-has : goal.returns-then-has
 returns-then-has c =
     let h : get_or c.args.image.now 0 0 < 2 ^ 64 = omega
-    (arith, c.shared_slice_known-1.given 0) in
-    item_passes c.args.image.now c.args.on c.requires.1 _ _ c.requires.0 c.union-all.ensures
+    (arith, c.fits-image 0) in
+    item_passes c.args.image.now c.args.on c.requires _ _ c.told-image c.union-all.ensures
     c.has.ensures _ c.if-has.true (machine_outside 64 _ (get_or c.args.image.now 0 0) h)
 
-pub returns : goal.returns
-returns c =
-    item_empty c.args.image.now c.args.on c.requires.1 _ _ c.requires.0 c.union-all.ensures
+pub returns-else-has : goal.returns-else-has
+returns-else-has c =
+    item_empty c.args.image.now c.args.on c.requires _ _ c.told-image c.union-all.ensures
     c.has.ensures
-    (λ i. omega (arith, c.shared_slice_known-1.given i)) c.if-has.false
+    (λ i. omega (arith, c.fits-image i)) c.if-has.false

@@ -1,6 +1,3 @@
--- After j turns the first j of the spaced bytes are 0 and the others as before (`Zeroed`); at the end j is the count. The last of
--- them is within the image, so each is (`below`): no index is beyond it.
-use borrow.Author.Rules.{rules}
 use native.Mathlib.Omega.{arith}
 use mathlib.Core.Path.{◌≡◌}
 use Prim.Native.Nat.{ℕ, suc, ◌+◌, ◌*◌, ◌≤◌, ◌<◌}
@@ -15,48 +12,15 @@ below : (step j count : ℕ) → j < count → step * j + step ≤ step * count
 below step j count h = rw (← mul-suc step j) (mul-le-mul_left step (let z : suc j ≤ count = omega arith in z))
 
 pub loop-j-init : goal.loop-j-init
-loop-j-init c = (search rules, search rules, zeroed-none _ _)
-
-pub overflow_mul-image : goal.overflow_mul-image
-overflow_mul-image c =
-    omega (
-      arith,
-      below c.args.step c.loop-j.j c.args.count
-          (omega arith),
-      c.loop-j.invariant.2.long,
-    )
-
-pub overflow_add-image : goal.overflow_add-image
-overflow_add-image c =
-    omega (
-      arith,
-      below c.args.step c.loop-j.j c.args.count
-          (omega arith),
-      c.loop-j.invariant.2.long,
-    )
-
-pub bounds-image-at : goal.bounds-image-at
-bounds-image-at c =
-    omega (
-      arith,
-      below c.args.step c.loop-j.j c.args.count
-          (omega arith),
-      c.loop-j.invariant.2.long,
-    )
+loop-j-init c = zeroed-none _ _
 
 pub loop-j-preserved : goal.loop-j-preserved
-loop-j-preserved c = (
-  search rules,
-  search rules,
-  zeroed_more (λ (i : ℕ). c.args.at + c.args.step * i) _ c.loop-j.j c.loop-j.image c.loop-j.invariant.2
-      (omega (arith, below c.args.step c.loop-j.j c.args.count (omega arith))),
-)
-
-pub shape_of-image : goal.shape_of-image
-shape_of-image c = c.loop-j.invariant.2.long
+loop-j-preserved c =
+    zeroed_more (λ (i : ℕ). c.args.at + c.args.step * i) _ c.loop-j.j c.loop-j.image c.loop-j.invariant
+    (omega (arith, below c.args.step c.loop-j.j c.args.count (omega arith)))
 
 pub returns : goal.returns
 unfolding spaced
 returns c =
     let e : c.loop-j.j ≡ c.args.count = omega arith in
-    zeroed_is (spaced c.args.at c.args.step c.args.count) c.args.image.now _ (rw e at c.loop-j.invariant.2)
+    zeroed_is (spaced c.args.at c.args.step c.args.count) c.args.image.now _ (rw e at c.loop-j.invariant)

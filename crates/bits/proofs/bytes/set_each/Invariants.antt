@@ -1,9 +1,7 @@
--- After i turns the bytes of the bits below i have their bit, and the others are as before (`Marks`); at the end i is 64. The last byte
--- is within the image, so each is (`below`): no index is beyond it.
-use mathlib.Core.Bool.{◌&&◌}
-use Prim.Native.Nat.{◌+◌, ◌-◌, ◌*◌, ◌%◌, ◌≤◌, ◌<◌}
-use lib.ListN.{length}
+-- After i turns the bytes of the bits below i have their bit, and the others are as before.
 use lib.Dec.{eqb}
+use mathlib.Core.Bool.{◌&&◌}
+use Prim.Native.Nat.{◌+◌, ◌*◌, ◌%◌}
 use Rattle.bits.specs.Sets.{any_below}
 use Rattle.bits.specs.Bits.{bit}
 use Rattle.bits.proofs.WithBits.{Marks}
@@ -11,7 +9,4 @@ use Rattle.bits.proofs.bytes.set_each.Given as goal
 
 abbrev pub invariant-loop-i : goal.invariant-loop-i
 invariant-loop-i l =
-    (l.i ≤ 64) × (l.at + l.step * 63 < length l.initial.image) × Marks (λ k. any_below l.i (λ n. bit l.set n && eqb k (l.at + l.step * n))) (l.b % 8) l.initial.image l.image
-
-abbrev pub decreases-loop-i : goal.decreases-loop-i
-decreases-loop-i l = 64 - l.i
+    Marks (λ k. any_below l.i (λ n. bit l.set n && eqb k (l.at + l.step * n))) (l.b % 8) l.initial.image l.image

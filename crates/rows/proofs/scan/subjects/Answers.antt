@@ -17,7 +17,7 @@ pub loop-who-preserved : goal.loop-who-preserved
 loop-who-preserved c = (
   search rules,
   bits_step c.loop-who.set _ c.loop-who.who _ _ (is_subject rows c.args.image.now)
-      c.loop-who.invariant.1 (let e : c.loop-who.who % 64 ≡ c.loop-who.who = omega arith in e) c.holds_any-holds.ensures c.with_if-set.ensures,
+      c.loop-who.invariant.1 (let e : c.loop-who.who % 64 ≡ c.loop-who.who = omega arith in e) c.holds_any.ensures c.with_if-set.ensures,
 )
 
 pub returns : goal.returns
