@@ -14,7 +14,7 @@ ghost use Rattle.convert.specs.Blocks.{lacking, ahead, full_on, stage};
 use bits::{byte, bytes, word, words};
 use layouts::flat::FlatUnit;
 use lists::Lists;
-use model::Answer;
+use model::Refusal;
 use rows::Rows;
 
 // The place of the lowest bit, and the word without that bit.
@@ -132,18 +132,15 @@ fn fill_rows(target: &mut [u8], source: &[u64])
 }
 
 // Numbers 1 and 2; rows are written whole, whatever they held.
-pub fn to_rows(source: &[u64], target: &mut [u8]) -> Answer
+pub fn to_rows(source: &[u64], target: &mut [u8]) -> Result<(), Refusal>
     ensures { Converts lists rows source.now target.old result source.now target.new }
 {
     if target.len() != Rows::BYTES {
-        return Answer::WrongLength;
+        return Err(Refusal::WrongLength);
     }
-    let a = Lists::inspect(source);
-    if a.number() != 0 {
-        return a;
-    }
+    Lists::inspect(source)?;
     fill_rows(target, source);
-    a
+    Ok(())
 }
 
 // Eight bytes as a word, least first.
@@ -201,16 +198,13 @@ fn fill_lists(target: &mut [u64], source: &[u8])
 }
 
 // Numbers 1 and 2; lists are written whole, whatever they held.
-pub fn to_lists(source: &[u8], target: &mut [u64]) -> Answer
+pub fn to_lists(source: &[u8], target: &mut [u64]) -> Result<(), Refusal>
     ensures { Converts rows lists source.now target.old result source.now target.new }
 {
     if target.len() != Lists::WORDS {
-        return Answer::WrongLength;
+        return Err(Refusal::WrongLength);
     }
-    let a = Rows::inspect(source);
-    if a.number() != 0 {
-        return a;
-    }
+    Rows::inspect(source)?;
     fill_lists(target, source);
-    a
+    Ok(())
 }

@@ -8,13 +8,13 @@ use lib.Dec.{eqb}
 use Rattle.std.specs.Prelude.{Result, Err, ⊤}
 use Rattle.model.specs.declared.Refusal.{Refusal}
 use Rattle.model.specs.declared.Refusal.TheVariants as is
-use Rattle.layouts.specs.Layouts.{list_words, row_bytes, grant_cells, lists, rows, Freshens}
+use Rattle.layouts.specs.Layouts.{list_words, row_bytes, grant_cells, Layout, lists, rows, Freshens}
 use Rattle.delegation.specs.Loans.{loan_words}
 use Rattle.delegation.specs.Images.{images}
 use Rattle.delegation.specs.ChainUnit.{ChainFreshens}
 use Rattle.agreement.specs.Agreement.{Units, fresh_units}
 use Rattle.bits.proofs.Sets.{by_cases, fst, snd}
-use Rattle.model.proofs.Answers.{numbered}
+use Rattle.model.proofs.Answers.{numbered, refuses}
 use Rattle.reader.specs.Replies.{units_in, sized, start_number, start_of, Starts}
 
 -- every buffer has its length
@@ -50,6 +50,10 @@ start_done u h l r a x y g t hx hy hz =
     let n' = rw (d3, d4) at hz.0 in
     let z' = rw (d3, d4) at hz.1 in
     rw (d1, d2, d3, d4) (n', λ i. record { lists = x' i; rows = y' i; chains = z' i })
+
+-- a buffer of its length is not refused
+pub never : (L : Layout) (s x : List ℕ) (r : Refusal) → length s ≡ L.cells → Freshens L s (Err r) x → ⊥
+never L s x r l h = refuses r (rw (eq-eqb (length s) L.cells l) at h.0.0)
 
 -- buffers of their lengths are made fresh
 pub started : (u x : Units) (r : Result ⊤ Refusal) → Sized u → Starts u r x → x ≡ fresh_units

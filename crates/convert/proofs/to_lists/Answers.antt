@@ -1,39 +1,30 @@
--- A target of a wrong length is refused (`convert-short`), then what looking at the rows refuses (`convert_stops`). Rows that are not
+-- A target of a wrong length is refused (`convert-short`), then what looking at the rows refuses (`convert_stops`). Those that are not
 -- refused have the right length (`readable`), so they are turned into lists (`convert_done`).
-use mathlib.Core.Path.{sym, ◌∙◌}
-use borrow.Author.Rules.{rules}
+use mathlib.Core.Path.{◌≡◌, sym, subst}
+use Rattle.std.proofs.Common.{rules}
+use Rattle.std.specs.Prelude.{Err}
 use Rattle.layouts.specs.Layouts.{lists, rows}
+use Rattle.layouts.specs.Convert.{Converts}
 use Rattle.layouts.proofs.Ends.{readable}
 use Rattle.layouts.proofs.Convert.{convert-short, convert_stops, convert_done}
 use Rattle.convert.proofs.to_lists.Goals as goal
 
 pub returns-then-target-ne-WORDS : goal.returns-then-target-ne-WORDS
 unfolding lists
-returns-then-target-ne-WORDS c =
-    convert-short rows lists c.args.source.now c.args.target.now c.if-target-ne-WORDS.true
+returns-then-target-ne-WORDS c = convert-short rows lists c.args.source.now c.args.target.now c.if-target-ne-WORDS.true
 
-pub returns-then-number-ne0 : goal.returns-then-number-ne0
+pub returns-in_err-inspect : goal.returns-in_err-inspect
 unfolding lists
-returns-then-number-ne0 c =
-    convert_stops rows lists c.args.source.now
-    c.args.target.now _ c.if-target-ne-WORDS.false
-    c.inspect-a.ensures.0.0 (λ z. c.if-number-ne0.true (c.number.ensures ∙ z))
+returns-in_err-inspect c =
+    let e : c.from_residual.result ≡ Err c.in_err-inspect.field-0.0 = search rules in
+    subst (λ r. Converts rows lists c.args.source.now c.args.target.now r c.args.source.now c.args.target.now) (sym e)
+    (convert_stops rows lists c.args.source.now c.args.target.now _ c.if-target-ne-WORDS.false c.in_err-inspect.ensures.0.0)
 
 pub fill_lists-requires : goal.fill_lists-requires
 unfolding rows
-fill_lists-requires c = (
-  readable rows c.args.source.now
-      (sym c.inspect-a.ensures.0.0 ∙ sym c.number.ensures
-      ∙ c.if-number-ne0.false),
-  search rules,
-)
+fill_lists-requires c = (readable rows c.args.source.now (sym c.in_ok-inspect.ensures.0.0), search rules)
 
 pub returns : goal.returns
 unfolding lists
 returns c =
-    convert_done rows lists c.args.source.now
-    c.args.target.now _ _
-    c.if-target-ne-WORDS.false
-    c.inspect-a.ensures.0.0
-    (sym c.number.ensures ∙ c.if-number-ne0.false)
-    c.fill_lists.ensures
+    convert_done rows lists c.args.source.now c.args.target.now _ c.if-target-ne-WORDS.false c.in_ok-inspect.ensures.0.0 c.fill_lists.ensures
