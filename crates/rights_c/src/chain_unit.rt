@@ -5,14 +5,14 @@ ghost use Rattle.delegation.specs.ChainUnit.{chain_unit};
 ghost use Rattle.rights_c.specs.Exports.{Gives, GivesCount, ChainFreshens, ChainAnswers, ChainInspects};
 
 use crate::reply;
+use model::number;
 
 #[unsafe(no_mangle)]
 pub extern "C" fn rights_chains_fresh(grants: &mut [u8], loans: &mut [u32]) -> u32
     ensures { ChainFreshens (images grants.old loans.old) result
         (images grants.new loans.new) }
 {
-    let a = chains::fresh(grants, loans);
-    a.number()
+    number(chains::fresh(grants, loans))
 }
 
 #[unsafe(no_mangle)]
@@ -25,8 +25,7 @@ pub extern "C" fn rights_chains_create(
     ensures { Gives chain_unit (images grants.old loans.old) (Create by on) result
         (images grants.new loans.new) }
 {
-    let a = chains::create(grants, loans, by, on);
-    a.number()
+    number(chains::create(grants, loans, by, on))
 }
 
 #[unsafe(no_mangle)]
@@ -39,8 +38,7 @@ pub extern "C" fn rights_chains_delete(
     ensures { Gives chain_unit (images grants.old loans.old) (Delete by on) result
         (images grants.new loans.new) }
 {
-    let a = chains::delete(grants, loans, by, on);
-    a.number()
+    number(chains::delete(grants, loans, by, on))
 }
 
 #[unsafe(no_mangle)]
@@ -56,8 +54,7 @@ pub extern "C" fn rights_chains_allow(
     ensures { Gives chain_unit (images grants.old loans.old) (Allow by to on right depth) result
         (images grants.new loans.new) }
 {
-    let a = chains::allow(grants, loans, by, to, on, right, depth);
-    a.number()
+    number(chains::allow(grants, loans, by, to, on, right, depth))
 }
 
 #[unsafe(no_mangle)]
@@ -73,8 +70,7 @@ pub extern "C" fn rights_chains_allow_set(
     ensures { Gives chain_unit (images grants.old loans.old) (AllowSet by set on right depth) result
         (images grants.new loans.new) }
 {
-    let a = chains::allow_set(grants, loans, by, set, on, right, depth);
-    a.number()
+    number(chains::allow_set(grants, loans, by, set, on, right, depth))
 }
 
 #[unsafe(no_mangle)]
@@ -89,8 +85,7 @@ pub extern "C" fn rights_chains_withdraw(
     ensures { Gives chain_unit (images grants.old loans.old) (Withdraw by to on right) result
         (images grants.new loans.new) }
 {
-    let a = chains::withdraw(grants, loans, by, to, on, right);
-    a.number()
+    number(chains::withdraw(grants, loans, by, to, on, right))
 }
 
 #[unsafe(no_mangle)]
@@ -106,8 +101,7 @@ pub extern "C" fn rights_chains_drop(
     ensures { Gives chain_unit (images grants.old loans.old) (Drop by to on right depth) result
         (images grants.new loans.new) }
 {
-    let a = chains::drop(grants, loans, by, to, on, right, depth);
-    a.number()
+    number(chains::drop(grants, loans, by, to, on, right, depth))
 }
 
 #[unsafe(no_mangle)]
@@ -124,8 +118,7 @@ pub extern "C" fn rights_chains_lend(
     ensures { Gives chain_unit (images grants.old loans.old) (Lend by to on right depth last) result
         (images grants.new loans.new) }
 {
-    let a = chains::lend(grants, loans, by, to, on, right, depth, last);
-    a.number()
+    number(chains::lend(grants, loans, by, to, on, right, depth, last))
 }
 
 #[unsafe(no_mangle)]
@@ -142,8 +135,7 @@ pub extern "C" fn rights_chains_recall(
     ensures { Gives chain_unit (images grants.old loans.old) (Recall by to on right depth last) result
         (images grants.new loans.new) }
 {
-    let a = chains::recall(grants, loans, by, to, on, right, depth, last);
-    a.number()
+    number(chains::recall(grants, loans, by, to, on, right, depth, last))
 }
 
 #[unsafe(no_mangle)]
@@ -156,8 +148,7 @@ pub extern "C" fn rights_chains_shift(
     ensures { Gives chain_unit (images grants.old loans.old) (Shift by shift) result
         (images grants.new loans.new) }
 {
-    let a = chains::shift(grants, loans, by, shift);
-    a.number()
+    number(chains::shift(grants, loans, by, shift))
 }
 
 #[unsafe(no_mangle)]
@@ -170,9 +161,9 @@ pub extern "C" fn rights_chains_sweep(
     ensures { GivesCount chain_unit (images grants.old loans.old) (Sweep by) result swept.new
         (images grants.new loans.new) }
 {
-    let a = chains::sweep(grants, loans, by);
-    *swept = a.count;
-    a.number()
+    let counted = chains::sweep(grants, loans, by);
+    *swept = counted.unwrap_or(0);
+    number(counted)
 }
 
 #[unsafe(no_mangle)]
@@ -190,10 +181,10 @@ pub extern "C" fn rights_chains_check(
         depth.new persons.new chain.new (images grants.now loans.now) }
 {
     let c = chains::check(grants, loans, who, on, right, chain);
-    let f = reply::values(c);
-    *depth = f.depth;
-    *persons = f.persons;
-    reply::chain_number(c)
+    let found = reply::values(c);
+    *depth = found.0;
+    *persons = found.1;
+    number(c)
 }
 
 #[unsafe(no_mangle)]
@@ -201,6 +192,5 @@ pub extern "C" fn rights_chains_inspect(grants: &[u8], loans: &[u32]) -> u32
     ensures { ChainInspects (images grants.now loans.now) result
         (images grants.now loans.now) }
 {
-    let a = chains::inspect(grants, loans);
-    a.number()
+    number(chains::inspect(grants, loans))
 }

@@ -3,7 +3,7 @@ ghost use Rattle.model.specs.declared.Command.TheVariants.{Create, Delete, Allow
 ghost use Rattle.layouts.specs.Layouts.{lists, flat_unit};
 ghost use Rattle.rights_c.specs.Exports.{Gives, Freshens, Answers, Subjects, Inspects};
 
-use crate::reply;
+use model::number;
 use layouts::flat::FlatUnit;
 use lists::Lists;
 
@@ -11,24 +11,21 @@ use lists::Lists;
 pub extern "C" fn rights_lists_fresh(image: &mut [u64]) -> u32
     ensures { Freshens lists image.old result image.new }
 {
-    let a = Lists::freshen(image);
-    a.number()
+    number(Lists::freshen(image))
 }
 
 #[unsafe(no_mangle)]
 pub extern "C" fn rights_lists_create(image: &mut [u64], by: u32, on: u32) -> u32
     ensures { Gives (flat_unit lists) image.old (Create by on) result image.new }
 {
-    let a = Lists::create(image, by, on);
-    a.number()
+    number(Lists::create(image, by, on))
 }
 
 #[unsafe(no_mangle)]
 pub extern "C" fn rights_lists_delete(image: &mut [u64], by: u32, on: u32) -> u32
     ensures { Gives (flat_unit lists) image.old (Delete by on) result image.new }
 {
-    let a = Lists::delete(image, by, on);
-    a.number()
+    number(Lists::delete(image, by, on))
 }
 
 #[unsafe(no_mangle)]
@@ -42,8 +39,7 @@ pub extern "C" fn rights_lists_allow(
 ) -> u32
     ensures { Gives (flat_unit lists) image.old (Allow by to on right depth) result image.new }
 {
-    let a = Lists::allow(image, by, to, on, right, depth);
-    a.number()
+    number(Lists::allow(image, by, to, on, right, depth))
 }
 
 #[unsafe(no_mangle)]
@@ -57,8 +53,7 @@ pub extern "C" fn rights_lists_allow_set(
 ) -> u32
     ensures { Gives (flat_unit lists) image.old (AllowSet by set on right depth) result image.new }
 {
-    let a = Lists::allow_set(image, by, set, on, right, depth);
-    a.number()
+    number(Lists::allow_set(image, by, set, on, right, depth))
 }
 
 #[unsafe(no_mangle)]
@@ -71,8 +66,7 @@ pub extern "C" fn rights_lists_withdraw(
 ) -> u32
     ensures { Gives (flat_unit lists) image.old (Withdraw by to on right) result image.new }
 {
-    let a = Lists::withdraw(image, by, to, on, right);
-    a.number()
+    number(Lists::withdraw(image, by, to, on, right))
 }
 
 #[unsafe(no_mangle)]
@@ -86,8 +80,8 @@ pub extern "C" fn rights_lists_check(
     ensures { Answers lists image.now who on right result yes.new image.now }
 {
     let c = Lists::check(image, who, on, right);
-    *yes = reply::checked_yes(c);
-    reply::checked_number(c)
+    *yes = c.unwrap_or(false) as u32;
+    number(c)
 }
 
 #[unsafe(no_mangle)]
@@ -95,15 +89,13 @@ pub extern "C" fn rights_lists_subjects(image: &[u64], persons: &mut u64) -> u32
     ensures { Subjects lists image.now result persons.new image.now }
 {
     let s = Lists::subjects(image);
-    *persons = s.persons;
-    let a = s.answer;
-    a.number()
+    *persons = s.unwrap_or(0);
+    number(s)
 }
 
 #[unsafe(no_mangle)]
 pub extern "C" fn rights_lists_inspect(image: &[u64]) -> u32
     ensures { Inspects lists image.now result image.now }
 {
-    let a = Lists::inspect(image);
-    a.number()
+    number(Lists::inspect(image))
 }

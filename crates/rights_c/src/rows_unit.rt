@@ -3,7 +3,7 @@ ghost use Rattle.model.specs.declared.Command.TheVariants.{Create, Delete, Allow
 ghost use Rattle.layouts.specs.Layouts.{rows, flat_unit};
 ghost use Rattle.rights_c.specs.Exports.{Gives, Freshens, Answers, Subjects, Inspects};
 
-use crate::reply;
+use model::number;
 use layouts::flat::FlatUnit;
 use rows::Rows;
 
@@ -11,24 +11,21 @@ use rows::Rows;
 pub extern "C" fn rights_rows_fresh(image: &mut [u8]) -> u32
     ensures { Freshens rows image.old result image.new }
 {
-    let a = Rows::freshen(image);
-    a.number()
+    number(Rows::freshen(image))
 }
 
 #[unsafe(no_mangle)]
 pub extern "C" fn rights_rows_create(image: &mut [u8], by: u32, on: u32) -> u32
     ensures { Gives (flat_unit rows) image.old (Create by on) result image.new }
 {
-    let a = Rows::create(image, by, on);
-    a.number()
+    number(Rows::create(image, by, on))
 }
 
 #[unsafe(no_mangle)]
 pub extern "C" fn rights_rows_delete(image: &mut [u8], by: u32, on: u32) -> u32
     ensures { Gives (flat_unit rows) image.old (Delete by on) result image.new }
 {
-    let a = Rows::delete(image, by, on);
-    a.number()
+    number(Rows::delete(image, by, on))
 }
 
 #[unsafe(no_mangle)]
@@ -42,8 +39,7 @@ pub extern "C" fn rights_rows_allow(
 ) -> u32
     ensures { Gives (flat_unit rows) image.old (Allow by to on right depth) result image.new }
 {
-    let a = Rows::allow(image, by, to, on, right, depth);
-    a.number()
+    number(Rows::allow(image, by, to, on, right, depth))
 }
 
 #[unsafe(no_mangle)]
@@ -57,8 +53,7 @@ pub extern "C" fn rights_rows_allow_set(
 ) -> u32
     ensures { Gives (flat_unit rows) image.old (AllowSet by set on right depth) result image.new }
 {
-    let a = Rows::allow_set(image, by, set, on, right, depth);
-    a.number()
+    number(Rows::allow_set(image, by, set, on, right, depth))
 }
 
 #[unsafe(no_mangle)]
@@ -71,8 +66,7 @@ pub extern "C" fn rights_rows_withdraw(
 ) -> u32
     ensures { Gives (flat_unit rows) image.old (Withdraw by to on right) result image.new }
 {
-    let a = Rows::withdraw(image, by, to, on, right);
-    a.number()
+    number(Rows::withdraw(image, by, to, on, right))
 }
 
 #[unsafe(no_mangle)]
@@ -86,8 +80,8 @@ pub extern "C" fn rights_rows_check(
     ensures { Answers rows image.now who on right result yes.new image.now }
 {
     let c = Rows::check(image, who, on, right);
-    *yes = reply::checked_yes(c);
-    reply::checked_number(c)
+    *yes = c.unwrap_or(false) as u32;
+    number(c)
 }
 
 #[unsafe(no_mangle)]
@@ -95,15 +89,13 @@ pub extern "C" fn rights_rows_subjects(image: &[u8], persons: &mut u64) -> u32
     ensures { Subjects rows image.now result persons.new image.now }
 {
     let s = Rows::subjects(image);
-    *persons = s.persons;
-    let a = s.answer;
-    a.number()
+    *persons = s.unwrap_or(0);
+    number(s)
 }
 
 #[unsafe(no_mangle)]
 pub extern "C" fn rights_rows_inspect(image: &[u8]) -> u32
     ensures { Inspects rows image.now result image.now }
 {
-    let a = Rows::inspect(image);
-    a.number()
+    number(Rows::inspect(image))
 }

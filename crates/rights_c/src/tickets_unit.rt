@@ -2,22 +2,20 @@
 ghost use Rattle.ticketing.specs.declared.TicketCommand.TheVariants.{Create, Generate, Pass, Remove, Delete};
 ghost use Rattle.rights_c.specs.Exports.{TicketGives, TicketGenerates, TicketFreshens, TicketAnswers, TicketInspects};
 
-use crate::reply;
+use model::number;
 
 #[unsafe(no_mangle)]
 pub extern "C" fn rights_tickets_fresh(image: &mut [u64]) -> u32
     ensures { TicketFreshens image.old result image.new }
 {
-    let a = tickets::fresh(image);
-    a.number()
+    number(tickets::fresh(image))
 }
 
 #[unsafe(no_mangle)]
 pub extern "C" fn rights_tickets_create(image: &mut [u64], by: u32, on: u32) -> u32
     ensures { TicketGives image.old (Create by on) result image.new }
 {
-    let a = tickets::create(image, by, on);
-    a.number()
+    number(tickets::create(image, by, on))
 }
 
 #[unsafe(no_mangle)]
@@ -30,34 +28,30 @@ pub extern "C" fn rights_tickets_generate(
 ) -> u32
     ensures { TicketGenerates image.old (Generate by on right) result number.new image.new }
 {
-    let g = tickets::generate(image, by, on, right);
-    *number = g.number;
-    let a = g.answer;
-    a.number()
+    let given = tickets::generate(image, by, on, right);
+    *number = given.unwrap_or(0);
+    model::number(given)
 }
 
 #[unsafe(no_mangle)]
 pub extern "C" fn rights_tickets_pass(image: &mut [u64], by: u32, to: u32, number: u32) -> u32
     ensures { TicketGives image.old (Pass by to number) result image.new }
 {
-    let a = tickets::pass(image, by, to, number);
-    a.number()
+    number(tickets::pass(image, by, to, number))
 }
 
 #[unsafe(no_mangle)]
 pub extern "C" fn rights_tickets_remove(image: &mut [u64], by: u32, number: u32) -> u32
     ensures { TicketGives image.old (Remove by number) result image.new }
 {
-    let a = tickets::remove(image, by, number);
-    a.number()
+    number(tickets::remove(image, by, number))
 }
 
 #[unsafe(no_mangle)]
 pub extern "C" fn rights_tickets_delete(image: &mut [u64], by: u32, on: u32) -> u32
     ensures { TicketGives image.old (Delete by on) result image.new }
 {
-    let a = tickets::delete(image, by, on);
-    a.number()
+    number(tickets::delete(image, by, on))
 }
 
 #[unsafe(no_mangle)]
@@ -71,14 +65,13 @@ pub extern "C" fn rights_tickets_check(
     ensures { TicketAnswers image.now who on right result yes.new image.now }
 {
     let c = tickets::check(image, who, on, right);
-    *yes = reply::checked_yes(c);
-    reply::checked_number(c)
+    *yes = c.unwrap_or(false) as u32;
+    number(c)
 }
 
 #[unsafe(no_mangle)]
 pub extern "C" fn rights_tickets_inspect(image: &[u64]) -> u32
     ensures { TicketInspects image.now result image.now }
 {
-    let a = tickets::inspect(image);
-    a.number()
+    number(tickets::inspect(image))
 }

@@ -1,11 +1,9 @@
 -- The ticket unit: the machine that the words of an image tell, after numbers 1 and 2. Here are the contracts of its functions.
-use Rattle.std.specs.Prelude.{◌≡◌, Bool, not, ◌&&◌, cond, List, ℕ, length, eqb}
-use Rattle.model.specs.declared.Answer.{Answer}
-use Rattle.model.specs.declared.Checked.{Checked}
-use Rattle.model.specs.Answers.{asked, Numbered, checked_of, ◌when◌else◌}
+use Rattle.std.specs.Prelude.{◌≡◌, Bool, not, ◌&&◌, cond, Result, ⊤, List, ℕ, length, eqb}
+use Rattle.model.specs.declared.Refusal.{Refusal}
+use Rattle.model.specs.Answers.{asked, Numbered, answered, ◌when◌else◌}
 use Rattle.layouts.specs.Machine.{guarded_by}
 use Rattle.ticketing.specs.declared.TicketCommand.{TicketCommand}
-use Rattle.ticketing.specs.declared.Generated.{Generated}
 use Rattle.ticketing.specs.Machine.{fresh_tickets, table, answer, apply, step, holds}
 use Rattle.ticketing.specs.Order.{is_in_order}
 use Rattle.ticketing.specs.Image.{ticket_words, image_of, machine_of}
@@ -31,16 +29,16 @@ abbrev pub Judged : List ℕ → TicketCommand → ℕ → List ℕ → Type 0
 Judged s c n x = (n ≡ table (machine_of s) c) × (x ≡ cond (eqb (table (machine_of s) c) 0) (image_of (apply (machine_of s) c)) s)
 
 -- answer r and image x of a command: the contract of every command
-abbrev pub Ran : List ℕ → TicketCommand → Answer → List ℕ → Type 0
-Ran s c r x = Numbered r (answer_of s c) × (x ≡ step_of s c)
+abbrev pub Ran : List ℕ → TicketCommand → Result ⊤ Refusal → List ℕ → Type 0
+Ran s c r x = Numbered r (answer_of s c) tt × (x ≡ step_of s c)
 
 -- the same of generate, with the number that it gives back
-abbrev pub Generates : List ℕ → TicketCommand → Generated → List ℕ → Type 0
-Generates s c r x = Ran s c r.answer x × (r.number ≡ given_of s c)
+abbrev pub Generates : List ℕ → TicketCommand → Result ℕ Refusal → List ℕ → Type 0
+Generates s c r x = Numbered r (answer_of s c) (given_of s c) × (x ≡ step_of s c)
 
 -- answer r and image x of a look at the image alone, which knows 1 and 2
-abbrev pub Inspects : List ℕ → Answer → List ℕ → Type 0
-Inspects s r x = Numbered r (guarded s 0) × (x ≡ s)
+abbrev pub Inspects : List ℕ → Result ⊤ Refusal → List ℕ → Type 0
+Inspects s r x = Numbered r (guarded s 0) tt × (x ≡ s)
 
 -- the check's number
 abbrev pub check_number : List ℕ → ℕ → ℕ → ℕ → ℕ
@@ -51,8 +49,8 @@ abbrev pub check_yes : List ℕ → ℕ → ℕ → ℕ → Bool
 check_yes s p o r = eqb (check_number s p o r) 0 && holds (machine_of s) p o r
 
 -- answer a and image x of a check, which changes no image
-abbrev pub Checks : List ℕ → ℕ → ℕ → ℕ → Checked → List ℕ → Type 0
-Checks s p o r a x = (a ≡ checked_of (check_number s p o r) (check_yes s p o r)) × (x ≡ s)
+abbrev pub Checks : List ℕ → ℕ → ℕ → ℕ → Result Bool Refusal → List ℕ → Type 0
+Checks s p o r a x = (a ≡ answered (check_number s p o r) (check_yes s p o r)) × (x ≡ s)
 
 -- the image of a fresh unit
 unfoldable pub fresh_image : List ℕ
@@ -67,5 +65,5 @@ abbrev pub fresh_of : List ℕ → List ℕ
 fresh_of s = cond (eqb (fresh_number s) 0) fresh_image s
 
 -- answer r and image x of making a fresh unit
-abbrev pub Freshens : List ℕ → Answer → List ℕ → Type 0
-Freshens s r x = Numbered r (fresh_number s) × (x ≡ fresh_of s)
+abbrev pub Freshens : List ℕ → Result ⊤ Refusal → List ℕ → Type 0
+Freshens s r x = Numbered r (fresh_number s) tt × (x ≡ fresh_of s)

@@ -2,8 +2,6 @@
 
 #![tactic(auto)]
 
-use model::Answer;
-
 // A ticket of document 02 (K6): its number, the item and the right that it opens, who issued it, and the set of its holders, bit i for
 // item i. It lives while it has a holder; the record of a place without a live ticket is all zero.
 #[repr(C)]
@@ -24,11 +22,4 @@ pub enum TicketCommand {
     Pass { by: u32, to: u32, number: u32 },
     Remove { by: u32, number: u32 },
     Delete { by: u32, on: u32 },
-}
-
-// What generate answers: the number of the new ticket, 0 beside a refusal.
-#[derive(Clone, Copy)]
-pub struct Generated {
-    pub answer: Answer,
-    pub number: u32,
 }

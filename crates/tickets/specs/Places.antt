@@ -1,10 +1,10 @@
 -- The places of an image, as the unit's own functions speak of them.
-use Rattle.std.specs.Prelude.{◌≡◌, Bool, true, not, ◌&&◌, cond, List, [], ◌∷◌, map, ℕ, suc, ◌+◌, ◌*◌, ◌<◌, ◌%◌, length, get_or, set, eqb}
+use Rattle.std.specs.Prelude.{◌≡◌, Bool, true, not, ◌&&◌, cond, Result, List, [], ◌∷◌, map, ℕ, suc, ◌+◌, ◌*◌, ◌<◌, ◌%◌, length, get_or, set, eqb}
 use Rattle.bits.specs.Sets.{keep}
 use Rattle.bits.specs.Bits.{bit}
-use Rattle.model.specs.Answers.{number_of}
+use Rattle.model.specs.Answers.{number_of, answered}
 use Rattle.ticketing.specs.declared.Ticket.{Ticket}
-use Rattle.ticketing.specs.declared.Generated.{Generated}
+use Rattle.model.specs.declared.Refusal.{Refusal}
 use Rattle.ticketing.specs.declared.TicketCommand.TheVariants.{Generate}
 use Rattle.ticketing.specs.Machine.{is_live, table, last_number, most_tickets}
 use Rattle.ticketing.specs.Order.{record_ok, is_in_order}
@@ -51,10 +51,11 @@ pub record Issued (s : List ℕ) (place by on right : ℕ) : Type 0 where
   pub right_in : right < 8
 
 -- answer r and image x of a generate past numbers 1 to 3
-abbrev pub JudgedGenerate : List ℕ → ℕ → ℕ → ℕ → Generated → List ℕ → Type 0
+abbrev pub JudgedGenerate : List ℕ → ℕ → ℕ → ℕ → Result ℕ Refusal → List ℕ → Type 0
 JudgedGenerate s by on right r x =
-    Judged s (Generate by on right) (number_of r.answer) x
-    × (r.number ≡ cond (eqb (table (machine_of s) (Generate by on right)) 0) (machine_of s).next 0)
+    Judged s (Generate by on right) (number_of r) x
+    × (r ≡ answered (table (machine_of s) (Generate by on right))
+    (cond (eqb (table (machine_of s) (Generate by on right)) 0) (machine_of s).next 0))
 
 -- the image with these words at place k
 abbrev pub placed : List ℕ → ℕ → ℕ → ℕ → List ℕ
