@@ -16,9 +16,7 @@ ghost use Rattle.tickets.specs.Places.{key_of, held_for, place_of, is_free, live
 
 use bits::{words, Word};
 use layouts::admit;
-use layouts::admit::CheckAdmission;
-use model::{Answer, Checked, Item, Right};
-use ticketing::Generated;
+use model::{Item, Refusal, Right};
 
 // The three words of a fresh unit that are not 0: the live set, the next number, and the holders of ticket 0.
 #[derive(Clone, Copy)]
@@ -49,18 +47,18 @@ impl Tickets {
 }
 
 // Number 1 alone: whatever the buffer held is overwritten.
-pub fn fresh(image: &mut [u64]) -> Answer
+pub fn fresh(image: &mut [u64]) -> Result<(), Refusal>
     ensures { Freshens image.old result image.new }
 {
     if image.len() != Tickets::WORDS {
-        return Answer::WrongLength;
+        return Err(Refusal::WrongLength);
     }
     let start = Tickets::fresh();
     words::clear(image);
     image[0] = start.live;
     image[1] = start.next;
     image[3] = start.holders;
-    Answer::Done
+    Ok(())
 }
 
 // The record at a place, and the set of its holders.
@@ -182,16 +180,16 @@ fn in_order(image: &[u64]) -> bool
 }
 
 // Numbers 1 and 2.
-fn order(image: &[u64]) -> Answer
+fn order(image: &[u64]) -> Result<(), Refusal>
     ensures { number_of result ≡ guarded image.now 0 }
 {
     if image.len() != Tickets::WORDS {
-        return Answer::WrongLength;
+        return Err(Refusal::WrongLength);
     }
     if !in_order(image) {
-        return Answer::NotInOrder;
+        return Err(Refusal::NotInOrder);
     }
-    Answer::Done
+    Ok(())
 }
 
 // Whether the item lives.
@@ -282,16 +280,16 @@ fn find(image: &[u64], number: u32) -> usize
 }
 
 // Numbers 15 and 16: no place is free, no number is left.
-fn room(place: usize, next: u64) -> Answer
+fn room(place: usize, next: u64) -> Result<(), Refusal>
     ensures { number_of result ≡ 15 when eqb place most_tickets else 16 when eqb next 4294967295 else 0 }
 {
     if place == Tickets::PLACES {
-        return Answer::TicketsFull;
+        return Err(Refusal::TicketsFull);
     }
     if next == Tickets::LAST {
-        return Answer::NumbersSpent;
+        return Err(Refusal::NumbersSpent);
     }
-    Answer::Done
+    Ok(())
 }
 
 // The record of a ticket.
@@ -318,15 +316,15 @@ fn put_ticket(image: &mut [u64], place: usize, by: Item, on: Item, right: Right)
 }
 
 // create past numbers 1 to 3: 4, 6, 15, 16.
-fn make(image: &mut [u64], by: Item, on: Item) -> Answer
+fn make(image: &mut [u64], by: Item, on: Item) -> Result<(), Refusal>
     requires { Ready image.old by.0 on.0 0 }
     ensures { Judged image.old (Create by.0 on.0) (number_of result) image.new }
 {
     if !is_live(image, by) {
-        return Answer::ByDead;
+        return Err(Refusal::ByDead);
     }
     if is_live(image, on) {
-        return Answer::AlreadyLive;
+        return Err(Refusal::AlreadyLive);
     }
     let place = first_free(image);
     let a = room(place, image[1]);
@@ -338,25 +336,25 @@ fn make(image: &mut [u64], by: Item, on: Item) -> Answer
     a
 }
 
-fn refused(answer: Answer) -> Generated
+fn refused(answer: Answer) -> Result<u32, Refusal>
     ensures { (result.answer ≡ answer) × (result.number ≡ 0) }
 {
     Generated { answer, number: 0 }
 }
 
 // generate past numbers 1 to 3: 4, 5, 17, 15, 16.
-fn give(image: &mut [u64], by: Item, on: Item, right: Right) -> Generated
+fn give(image: &mut [u64], by: Item, on: Item, right: Right) -> Result<u32, Refusal>
     requires { Ready image.old by.0 on.0 right.0 }
     ensures { JudgedGenerate image.old by.0 on.0 right.0 result image.new }
 {
     if !is_live(image, by) {
-        return refused(Answer::ByDead);
+        return Err(Refusal::ByDead);
     }
     if !is_live(image, on) {
-        return refused(Answer::NamedDead);
+        return Err(Refusal::NamedDead);
     }
     if !is_holder(image, by, on, Right::edit()) {
-        return refused(Answer::NoTicket);
+        return Err(Refusal::NoTicket);
     }
     let place = first_free(image);
     let number = image[1];
@@ -372,47 +370,47 @@ fn give(image: &mut [u64], by: Item, on: Item, right: Right) -> Generated
 }
 
 // pass past numbers 1 to 3: 4, 5, 17.
-fn add_holder(image: &mut [u64], by: Item, to: Item, number: u32) -> Answer
+fn add_holder(image: &mut [u64], by: Item, to: Item, number: u32) -> Result<(), Refusal>
     requires { Ready image.old by.0 to.0 0 }
     ensures { Judged image.old (Pass by.0 to.0 number) (number_of result) image.new }
 {
     if !is_live(image, by) {
-        return Answer::ByDead;
+        return Err(Refusal::ByDead);
     }
     if !is_live(image, to) {
-        return Answer::NamedDead;
+        return Err(Refusal::NamedDead);
     }
     let place = find(image, number);
     if place == Tickets::PLACES {
-        return Answer::NoTicket;
+        return Err(Refusal::NoTicket);
     }
     let w = record_at(image, place);
     let h = holders_at(image, place);
     if !h.has(by.number()) {
-        return Answer::NoTicket;
+        return Err(Refusal::NoTicket);
     }
     put_record(image, place, w, h.with(to.number()));
-    Answer::Done
+    Ok(())
 }
 
 // remove past numbers 1 to 3: 4, 17.
-fn end_ticket(image: &mut [u64], by: Item, number: u32) -> Answer
+fn end_ticket(image: &mut [u64], by: Item, number: u32) -> Result<(), Refusal>
     requires { Ready image.old by.0 0 0 }
     ensures { Judged image.old (Remove by.0 number) (number_of result) image.new }
 {
     if !is_live(image, by) {
-        return Answer::ByDead;
+        return Err(Refusal::ByDead);
     }
     let place = find(image, number);
     if place == Tickets::PLACES {
-        return Answer::NoTicket;
+        return Err(Refusal::NoTicket);
     }
     let item = (record_at(image, place) >> 32) % 256;
     if !holds_key(image, by, item) {
-        return Answer::NoTicket;
+        return Err(Refusal::NoTicket);
     }
     put_record(image, place, 0, 0);
-    Answer::Done
+    Ok(())
 }
 
 // The item out of the holders at that place, where there is a ticket; it ends where it is the item's, or has no holder left.
@@ -447,103 +445,77 @@ fn drop_all(image: &mut [u64], on: Item)
 }
 
 // delete past numbers 1 to 3: 4, 5, 7, 17.
-fn drop_item(image: &mut [u64], by: Item, on: Item) -> Answer
+fn drop_item(image: &mut [u64], by: Item, on: Item) -> Result<(), Refusal>
     requires { Ready image.old by.0 on.0 0 }
     ensures { Judged image.old (Delete by.0 on.0) (number_of result) image.new }
 {
     if !is_live(image, by) {
-        return Answer::ByDead;
+        return Err(Refusal::ByDead);
     }
     if !is_live(image, on) {
-        return Answer::NamedDead;
+        return Err(Refusal::NamedDead);
     }
     if on.number() == 0 {
-        return Answer::RootItem;
+        return Err(Refusal::RootItem);
     }
     if !is_holder(image, by, on, Right::edit()) {
-        return Answer::NoTicket;
+        return Err(Refusal::NoTicket);
     }
     image[0] = image[0].without(on.number());
     drop_all(image, on);
-    Answer::Done
+    Ok(())
 }
 
 // Item on lives, and by holds a new ticket for right 0 on it.
-pub fn create(image: &mut [u64], by: u32, on: u32) -> Answer
+pub fn create(image: &mut [u64], by: u32, on: u32) -> Result<(), Refusal>
     ensures { Ran image.old (Create by on) result image.new }
 {
-    let a = admit::check(order(image), by, on, 0);
-    match a {
-        CheckAdmission::Refused(r) => r,
-        CheckAdmission::Ready { who: p, on: i, .. } => make(image, p, i),
-    }
+    let q = admit::check(order(image), by, on, 0)?;
+    make(image, q.who, q.on)
 }
 
 // A new ticket for that item and right, held by its issuer; its number.
-pub fn generate(image: &mut [u64], by: u32, on: u32, right: u32) -> Generated
+pub fn generate(image: &mut [u64], by: u32, on: u32, right: u32) -> Result<u32, Refusal>
     ensures { Generates image.old (Generate by on right) result image.new }
 {
-    let a = admit::check(order(image), by, on, right);
-    match a {
-        CheckAdmission::Refused(r) => refused(r),
-        CheckAdmission::Ready {
-            who: p,
-            on: i,
-            right: r,
-        } => give(image, p, i, r),
-    }
+    let q = admit::check(order(image), by, on, right)?;
+    give(image, q.who, q.on, q.right)
 }
 
 // The holder by makes to a holder too.
-pub fn pass(image: &mut [u64], by: u32, to: u32, number: u32) -> Answer
+pub fn pass(image: &mut [u64], by: u32, to: u32, number: u32) -> Result<(), Refusal>
     ensures { Ran image.old (Pass by to number) result image.new }
 {
-    let a = admit::check(order(image), by, to, 0);
-    match a {
-        CheckAdmission::Refused(r) => r,
-        CheckAdmission::Ready { who: p, on: i, .. } => add_holder(image, p, i, number),
-    }
+    let q = admit::check(order(image), by, to, 0)?;
+    add_holder(image, q.who, q.on, number)
 }
 
 // The ticket ends: nobody holds it any more.
-pub fn remove(image: &mut [u64], by: u32, number: u32) -> Answer
+pub fn remove(image: &mut [u64], by: u32, number: u32) -> Result<(), Refusal>
     ensures { Ran image.old (Remove by number) result image.new }
 {
-    let a = admit::check(order(image), by, 0, 0);
-    match a {
-        CheckAdmission::Refused(r) => r,
-        CheckAdmission::Ready { who: p, .. } => end_ticket(image, p, number),
-    }
+    let q = admit::check(order(image), by, 0, 0)?;
+    end_ticket(image, q.who, number)
 }
 
 // Item on is dead, its tickets end, and it holds none.
-pub fn delete(image: &mut [u64], by: u32, on: u32) -> Answer
+pub fn delete(image: &mut [u64], by: u32, on: u32) -> Result<(), Refusal>
     ensures { Ran image.old (Delete by on) result image.new }
 {
-    let a = admit::check(order(image), by, on, 0);
-    match a {
-        CheckAdmission::Refused(r) => r,
-        CheckAdmission::Ready { who: p, on: i, .. } => drop_item(image, p, i),
-    }
+    let q = admit::check(order(image), by, on, 0)?;
+    drop_item(image, q.who, q.on)
 }
 
 // Whether the person holds a live ticket for that item and right.
-pub fn check(image: &[u64], who: u32, on: u32, right: u32) -> Checked
+pub fn check(image: &[u64], who: u32, on: u32, right: u32) -> Result<bool, Refusal>
     ensures { Checks image.now who on right result image.now }
 {
-    let a = admit::check(order(image), who, on, right);
-    match a {
-        CheckAdmission::Refused(r) => Checked::Refused(r),
-        CheckAdmission::Ready {
-            who: p,
-            on: i,
-            right: r,
-        } => Checked::said(is_holder(image, p, i, r)),
-    }
+    let q = admit::check(order(image), who, on, right)?;
+    Ok(is_holder(image, q.who, q.on, q.right))
 }
 
 // Numbers 1 and 2 alone, for a caller that reads the records itself.
-pub fn inspect(image: &[u64]) -> Answer
+pub fn inspect(image: &[u64]) -> Result<(), Refusal>
     ensures { Inspects image.now result image.now }
 {
     order(image)
