@@ -54,8 +54,9 @@ fn put_list(target: &mut Bytes, source: &Words, on: usize, r: u32, full: u64)
     ensures { target.new ≡ lacking 8 row_bytes (ahead (stage source.now) (9 * on + 1 + (r + 1)))
         (convert lists rows source.now) }
 {
+    let at = 8 + on;
     for p in Members(source[1 + 8 * on + r as usize] & !full) {
-        let byte = &mut target[8 + 64 * p as usize + on];
+        let byte = &mut target[at + 64 * p as usize];
         *byte = byte.with(r);
     }
 }
@@ -79,8 +80,9 @@ fn put_column(target: &mut Bytes, source: &Words, on: usize)
         (convert lists rows source.now) }
 {
     let full = persons_with_all(source, on);
+    let at = 8 + on;
     for p in Members(full) {
-        target[8 + 64 * p as usize + on] = 255;
+        target[at + 64 * p as usize] = 255;
     }
     put_lists(target, source, on, full);
 }

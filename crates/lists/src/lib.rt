@@ -16,7 +16,7 @@ ghost use Rattle.layouts.specs.Subjects.{Tells};
 ghost use Rattle.layouts.specs.Order.{block_ok};
 ghost use Rattle.bits.specs.Zeros.{swept};
 
-use bits::{words, Word};
+use bits::{Word, words};
 use layouts::admit;
 use layouts::admit::{CheckAdmission, CommandAdmission};
 use model::{

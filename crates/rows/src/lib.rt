@@ -12,7 +12,7 @@ ghost use Rattle.layouts.specs.Machine.{Judged, Ran, Offers};
 ghost use Rattle.layouts.specs.Layouts.{rows, row_bytes, held, guarded, facts_of, created, deleted, allowed, allowed_set, withdrawn, after, flat_unit, Inspects, Checks, fresh_image, Freshens};
 ghost use Rattle.layouts.specs.Subjects.{Tells};
 
-use bits::{bytes, Word};
+use bits::{Word, bytes};
 use layouts::admit::{CheckAdmission, CommandAdmission};
 use layouts::{admit, live};
 use model::{

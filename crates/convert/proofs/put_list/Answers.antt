@@ -21,9 +21,10 @@ loop-p-init c =
 
 pub loop-p-preserved : goal.loop-p-preserved
 loop-p-preserved c =
-    let s = c.in-Some.ensures.steps in (
-      list_put c.args.source.now c.args.on c.args.r c.in-Some.p c.loop-p.p-iterator.0 c.next.new.self.0 c.with.result c.loop-p.target c.requires.0 c.requires.1 s.0 c.loop-p.invariant.0
-          (c.loop-p.invariant.1 c.in-Some.p s.0 s.1) c.with.ensures s.2,
+    let s = c.in-Some.ensures.steps in
+    let z : 8 + c.args.on + 64 * c.in-Some.p ≡ 8 + 64 * c.in-Some.p + c.args.on = omega arith in (
+      rw z (list_put c.args.source.now c.args.on c.args.r c.in-Some.p c.loop-p.p-iterator.0 c.next.new.self.0 c.with.result c.loop-p.target c.requires.0 c.requires.1 s.0 c.loop-p.invariant.0
+          (c.loop-p.invariant.1 c.in-Some.p s.0 s.1) (rw z at c.with.ensures) s.2),
       λ k h b. c.loop-p.invariant.1 k h (left_bit _ _ _ k s.2 b),
     )
 
