@@ -162,10 +162,14 @@ module _ (L M : Layout) (s t : List ℕ) where
   pub convert-short : (length t ≡ M.cells → ⊥) → Converts L M s t (Err is.WrongLength) s t
   convert-short h = rw (ne_eqb (length t) M.cells h, and-false (eqb (length s) L.cells)) (numbered (Err is.WrongLength) 1 refl, refl, refl)
 
+  -- s has
+  pub source-short : (length s ≡ L.cells → ⊥) → Converts L M s t (Err is.WrongLength) s t
+  source-short h = rw (ne_eqb (length s) L.cells h) (numbered (Err is.WrongLength) 1 refl, refl, refl)
+
   judged : length t ≡ M.cells → convert_number L M s t ≡ guarded L s 0
   judged l = rw (eq-eqb (length t) M.cells l, and-true (eqb (length s) L.cells))
 
-  -- s has, or is not in order
+  -- s is refused
   pub convert_stops : (r : Refusal) → length t ≡ M.cells → refusal_number r ≡ guarded L s 0 → Converts L M s t (Err r) s t
   convert_stops r l e =
       let q : refusal_number r ≡ convert_number L M s t = e ∙ sym (judged l) in

@@ -1,30 +1,33 @@
--- A target of a wrong length is refused (`convert-short`), then what looking at the rows refuses (`convert_stops`). Those that are not
--- refused have the right length (`readable`), so they are turned into lists (`convert_done`).
-use mathlib.Core.Path.{◌≡◌, sym, subst}
+-- A source or a target of a wrong length is refused (`source-short`, `convert-short`), then what looking at the source refuses
+-- (`convert_stops`). What is not refused is turned (`convert_done`).
+use mathlib.Core.Path.{◌≡◌, sym, ap, ◌∙◌, subst}
 use Rattle.std.proofs.Common.{rules}
 use Rattle.std.specs.Prelude.{Err}
 use Rattle.layouts.specs.Layouts.{lists, rows}
-use Rattle.layouts.specs.Convert.{Converts}
-use Rattle.layouts.proofs.Ends.{readable}
-use Rattle.layouts.proofs.Convert.{convert-short, convert_stops, convert_done}
+use Rattle.layouts.specs.Convert.{convert, Converts}
+use Rattle.layouts.proofs.Convert.{source-short, convert-short, convert_stops, convert_done}
 use Rattle.convert.proofs.to_lists.Goals as goal
 
-pub returns-then-target-ne-WORDS : goal.returns-then-target-ne-WORDS
+pub returns-in_default : goal.returns-in_default
+unfolding rows
+returns-in_default c = source-short rows lists c.args.source.now c.args.target.now c.in_default.ensures.cases
+
+pub returns-in_default-as_mut_array : goal.returns-in_default-as_mut_array
 unfolding lists
-returns-then-target-ne-WORDS c = convert-short rows lists c.args.source.now c.args.target.now c.if-target-ne-WORDS.true
+returns-in_default-as_mut_array c =
+    convert-short rows lists c.args.source.now c.args.target.now c.in_default-as_mut_array.ensures.cases
 
 pub returns-in_err-inspect : goal.returns-in_err-inspect
 unfolding lists
 returns-in_err-inspect c =
+    let whole = c.in-Some-as_mut_array.ensures.cases in
     let e : c.from_residual.result ≡ Err c.in_err-inspect.field-0.0 = search rules in
-    subst (λ r. Converts rows lists c.args.source.now c.args.target.now r c.args.source.now c.args.target.now) (sym e)
-    (convert_stops rows lists c.args.source.now c.args.target.now _ c.if-target-ne-WORDS.false c.in_err-inspect.ensures.0.0)
-
-pub fill_lists-requires : goal.fill_lists-requires
-unfolding rows
-fill_lists-requires c = (readable rows c.args.source.now (sym c.in_ok-inspect.ensures.0.0), search rules)
+    rw whole.same
+    (subst (λ r. Converts rows lists c.args.source.now c.args.target.now r c.args.source.now c.args.target.now) (sym e)
+    (convert_stops rows lists c.args.source.now c.args.target.now _ whole.long c.in_err-inspect.ensures.0.0))
 
 pub returns : goal.returns
 unfolding lists
 returns c =
-    convert_done rows lists c.args.source.now c.args.target.now _ c.if-target-ne-WORDS.false c.in_ok-inspect.ensures.0.0 c.fill_lists.ensures
+    convert_done rows lists c.args.source.now c.args.target.now _ c.in-Some-as_mut_array.ensures.cases.long c.in_ok-inspect.ensures.0.0
+    (c.fill_lists.ensures ∙ ap (convert rows lists) c.in-Some.ensures.cases.same)
