@@ -3,7 +3,7 @@ use mathlib.Core.Path.{◌≡◌, refl, sym, ap, ap₂, ◌∙◌, subst}
 use mathlib.Core.List.{List, [], ◌∷◌, ◌++◌, append_assoc, append-nil}
 use Prim.Native.Nat.{ℕ, ◌+◌}
 use native.Mathlib.Omega.{arith}
-use lib.ListN.{length, take, drop, length-drop, drop_of_length-le}
+use lib.ListN.{length, take, drop, length-drop}
 use Rattle.agreement.specs.Agreement.{Units, fresh_units}
 use Rattle.lines.specs.declared.collect.Partial.{Partial}
 use Rattle.lines.specs.Collect.{Line, lines_from, lines_of, nothing_held}
@@ -12,8 +12,9 @@ use Rattle.stream.specs.declared.Progress.{Progress}
 use Rattle.stream.specs.Session.{Session, session, fresh_session, session_after_all, taken_of, bytes_of, Consumes}
 use Rattle.stream.proofs.Session.{nothing, after-append, bytes-append, cut, consumes_part, consumes_lines}
 use Rattle.program.specs.declared.Failed.{Failed}
-use Rattle.std.specs.Prelude.{Option, Some, None, Result, Ok, Err}
-use Rattle.program.specs.Loop.{Holds, StoppedIn, Answered, Came, ReadOnce, Ran}
+use Rattle.std.specs.Prelude.{Some, None, Result, Ok, Err, IsErr}
+use mathlib.Core.Bool.{false≢true}
+use Rattle.program.specs.Loop.{StoppedIn, Answered, Came, ReadOnce, Ran}
 
 -- ---- a chunk
 -- how far the loop over a chunk is: the pieces done, which are its first bytes, before the rest
@@ -57,6 +58,12 @@ through_stop {s₀} {chunk} {rest} {n} {u} {buf} {p} t =
       part = omega (arith, t.part);
       left = record { units = ap (λ (z : Session). z.units) q; line = ap (λ (z : Session). z.collector.buffer) q };
     }
+
+-- where a write failed
+pub stopped : {s : Session} {chunk : List ℕ} {u : Units} {buf : List ℕ} (r : Result Progress Failed) → IsErr r → StoppedIn s chunk u buf
+    → Answered s chunk u buf r
+stopped (Ok p) h t = absurd (false≢true h)
+stopped (Err e) h t = t
 
 pub none_came : (n : ℕ) (u : Units) (buf : List ℕ) (p : Partial) {e : Failed} → Came (session n u buf p) u buf (Err e)
 none_came n u buf p = record { chunk = []; answered = through_stop (through_start (session n u buf p) []) }

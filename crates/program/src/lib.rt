@@ -80,7 +80,10 @@ fn read_some<I: Read, O: Print>(
     match input.read(&mut chunk) {
         Err(_) => Err(Failed),
         Ok(0) => Ok(None),
-        Ok(n) => answer(output, list, row, grants, loans, buf, out, p, &chunk[..n]).map(Some),
+        Ok(n) => {
+            let next = answer(output, list, row, grants, loans, buf, out, p, &chunk[..n])?;
+            Ok(Some(next))
+        }
     }
 }
 

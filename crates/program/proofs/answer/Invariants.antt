@@ -5,10 +5,10 @@ use Rattle.program.proofs.Parts.{Through}
 use lib.ListN.{length}
 use Rattle.program.proofs.answer.Given as goal
 
-abbrev pub invariant-loop-list : goal.invariant-loop-list
-invariant-loop-list g l =
+abbrev pub invariant-loop-rest : goal.invariant-loop-rest
+invariant-loop-rest g l =
     Through (session l.initial.next.lines (units_in l.initial.list l.initial.row l.initial.grants l.initial.loans) l.initial.buf l.initial.next.held)
     (session l.next.lines (units_in l.list l.row l.grants l.loans) l.buf l.next.held) l.chunk l.rest
 
-abbrev pub decreases-loop-list : goal.decreases-loop-list
-decreases-loop-list g l = length l.rest
+abbrev pub decreases-loop-rest : goal.decreases-loop-rest
+decreases-loop-rest g l = length l.rest

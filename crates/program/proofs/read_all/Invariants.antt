@@ -5,7 +5,7 @@ use Rattle.stream.specs.Session.{session}
 use Rattle.program.proofs.Parts.{Reached}
 use Rattle.program.proofs.read_all.Given as goal
 
-abbrev pub invariant-loop-list : goal.invariant-loop-list
-invariant-loop-list g l =
+abbrev pub invariant-loop : goal.invariant-loop
+invariant-loop g l =
     Reached (session 0 (units_in l.initial.list l.initial.row l.initial.grants l.initial.loans) l.initial.buf nothing_held)
     (session l.next.lines (units_in l.list l.row l.grants l.loans) l.buf l.next.held)

@@ -1,4 +1,5 @@
+use Rattle.program.proofs.Parts.{none_came}
 use Rattle.program.proofs.read_some.Goals as goal
 
-pub returns : goal.returns
-returns g c = ?
+pub returns-in-Err : goal.returns-in-Err
+returns-in-Err g c = none_came _ _ _ _
