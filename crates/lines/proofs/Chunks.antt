@@ -1,43 +1,46 @@
 -- Laws of lines put together from chunks: cutting the input anywhere changes nothing.
 use mathlib.Core.Path.{◌≡◌, refl, sym, ap, ◌∙◌}
-use mathlib.Core.Bool.{true, false, true≢false, false≢true, or-true}
-use mathlib.Core.List.{List, [], ◌∷◌, ◌++◌}
-use Prim.Native.Nat.{ℕ, ◌+◌, ◌-◌, ◌≤◌, ◌<◌}
+use mathlib.Core.Bool.{true, false, not, true≢false, false≢true}
+use Rattle.std.specs.Prelude.{nat_eq, unwrap_or}
+use Rattle.std.specs.List.{position, prefix_len}
+use mathlib.Core.List.{List, [], ◌∷◌, ◌++◌, append_assoc}
+use Prim.Native.Nat.{ℕ, ◌+◌, ◌≤◌, ◌<◌}
 use native.Mathlib.Omega.{arith}
-use native.Mathlib.Numerals.{add-one}
-use borrow.Author.Tests.{eq-eqb, ne_eqb, lt-ltb, le-ltb, ltb-true, ltb-false}
-use lib.ListN.{length, take, drop, get_or, set, length-append}
-use lib.Seq.{sets, take-suc, length-take-le, length-sets, sets-eq, take_at}
+use borrow.Author.Tests.{le-ltb, ltb-true, ltb-false}
+use lib.ListN.{length, take, drop, length-append}
+use lib.Seq.{sets, length-take-le, length-sets, sets-eq, take_at, drop-drop}
 use lib.Dec.{ltb, eqb}
 use Rattle.bits.proofs.Sets.{by_cases}
 use Rattle.lines.specs.declared.collect.Partial.{Partial}
 use Rattle.lines.specs.declared.collect.Fed.{Fed}
 use Rattle.lines.specs.Line.{parse_line}
 use Rattle.lines.specs.Collect.{before_newline, nothing_held, past, after_line, fed_of, held_after, buffer_after, held_line}
-use Rattle.lines.proofs.Line.{drop-next, drop-end}
-use Rattle.lines.proofs.Decimal.{sets_snoc}
 use Rattle.lines.proofs.Grammar.{long_malformed}
 
-module _ (s : List ℕ) (i : ℕ) (h : i < length s) where
-  pub newline_here : get_or s i 0 ≡ 10 → before_newline (drop i s) ≡ []
-  unfolding before_newline
-  newline_here e = rw (drop-next s i h, eq-eqb _ _ e) refl
+-- bytes copied into the buffer from a place on
+pub put_sets : (b part : List ℕ) (at : ℕ) → at + length part ≤ length b
+    → take at b ++ (part ++ drop (length part) (drop at b)) ≡ sets b at part
+put_sets b part at h =
+    rw (drop-drop (length part) at b)
+    (sym (sets-eq part b at h ∙ append_assoc (take at b) part (drop (at + length part) b)))
 
-  pub newline-later : (get_or s i 0 ≡ 10 → ⊥) → before_newline (drop i s) ≡ get_or s i 0 ∷ before_newline (drop (i + 1) s)
-  unfolding before_newline
-  newline-later n = rw (drop-next s i h, ne_eqb _ _ n) refl
-
-pub newline-end : (s : List ℕ) (i : ℕ) → length s ≤ i → before_newline (drop i s) ≡ []
+pub before_length : (s : List ℕ) → length (before_newline s) ≤ length s
 unfolding before_newline
-newline-end s i h = rw (drop-end s i h) refl
+before_length [] = omega arith
+before_length (b ∷ s) = by_cases (eqb b 10) (λ q. rw q (omega arith)) (λ q. rw q (omega (arith, before_length s)))
 
--- one more byte stored
-pub store_next : (buf₀ buf part : List ℕ) (at j : ℕ) → j < length part → buf ≡ sets buf₀ at (take j part)
-    → set buf (at + j) (get_or part j 0) ≡ sets buf₀ at (take (j + 1) part)
-store_next buf₀ buf part at j h e =
-    let len : length (take j part) ≡ j = length-take-le j part (omega arith) in
-    let k : at + j ≡ at + length (take j part) = ap (λ (n : ℕ). at + n) (sym len) in
-    rw (e, k, add-one j, take-suc part j 0) (sets_snoc buf₀ at (take j part) (get_or part j 0))
+prefix-before : (s : List ℕ) → prefix_len (λ b. not (nat_eq b 10)) s ≡ length (before_newline s)
+unfolding before_newline
+prefix-before [] = refl
+prefix-before (b ∷ s) = by_cases (eqb b 10) (λ q. rw q) (λ q. rw q (omega (arith, prefix-before s)))
+
+-- the place of the first byte 10, or the end
+pub newline-place : (s : List ℕ) → unwrap_or (position (λ b. nat_eq b 10) s) (length s) ≡ length (before_newline s)
+newline-place s =
+    let e = prefix-before s in
+    let n = before_length s in
+    by_cases (ltb (prefix_len (λ b. not (nat_eq b 10)) s) (length s)) (λ q. rw q e)
+    (λ q. let l = ltb-false (prefix_len (λ b. not (nat_eq b 10)) s) (length s) q in rw q (omega arith))
 
 pub take_before : (l : List ℕ) → take (length (before_newline l)) l ≡ before_newline l
 unfolding before_newline
@@ -50,19 +53,6 @@ past_room cap p n e =
 
 not_over : (cap : ℕ) (p : Partial) (n : ℕ) → past cap p n ≡ false → p.over ≡ false
 not_over cap p n e = by_cases p.over (λ q. absurd (true≢false (rw q at e))) (λ q. q)
-
--- each answer of is_past
-pub past_over : (cap : ℕ) (p : Partial) (n : ℕ) → p.over ≡ true → true ≡ past cap p n
-past_over cap p n e = rw e refl
-
-pub past-long : (cap : ℕ) (p : Partial) (n : ℕ) → cap < p.len → true ≡ past cap p n
-past-long cap p n h = let k : cap < p.len + n = omega arith in rw (lt-ltb _ _ k) (sym (or-true p.over))
-
-pub past_more : (cap : ℕ) (p : Partial) (n : ℕ) → p.over ≡ false → p.len ≤ cap → ltb (cap - p.len) n ≡ past cap p n
-past_more cap p n e h =
-    by_cases (ltb (cap - p.len) n)
-    (λ q. let lt = ltb-true (cap - p.len) n q in let k : cap < p.len + n = omega arith in rw (q, e, lt-ltb _ _ k) refl)
-    (λ q. let ge = ltb-false (cap - p.len) n q in let k : p.len + n ≤ cap = omega arith in rw (q, e, le-ltb _ _ k) refl)
 
 -- the answers of feed and line
 module _ (buf : List ℕ) (p : Partial) (chunk : List ℕ) (n used : ℕ) (e : n ≡ length (before_newline chunk))

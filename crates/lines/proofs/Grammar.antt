@@ -1,5 +1,5 @@
 -- The parser reads exactly the lines of the grammar, each as what it asks for; and none above 128 bytes.
-use Prim.Native.Nat.{ℕ, ◌+◌, ◌%◌, ◌<◌}
+use Prim.Native.Nat.{ℕ, ◌+◌, ◌<◌}
 use native.Mathlib.Omega.{arith}
 use mathlib.Core.Path.{◌≡◌, refl, sym, ap, ◌∙◌}
 use mathlib.Core.Bool.{false, false≢true}
@@ -33,7 +33,7 @@ reads_only s = rw (only_reads s (verb_at s) (only-told s)) (from (values_by (for
         let i = seen (form_of (verb_at s)).pattern s 0 [] vs e in
         inr record {
           verb = verb_at s;
-          known = verb-fits ((get_or s 5 0 + get_or s 9 0) % 64);
+          known = verb-fits (get_or s 5 0 + get_or s 9 0);
           values = vs;
           line = i.text ∙ ap (written (form_of (verb_at s)).pattern) (sym i.whole);
           many = ap length i.whole ∙ i.many;

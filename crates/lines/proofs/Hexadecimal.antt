@@ -16,10 +16,11 @@ use lib.Dec.{leb, eqb}
 use Rattle.bits.specs.Sets.{all, all_below}
 use Rattle.bits.proofs.Sets.{by_cases, fst, snd, both, all_append}
 use Rattle.bits.proofs.Indexed.{below_elim, all-next}
-use Rattle.lines.specs.declared.Number.TheVariants.{Value, Bad}
+use Rattle.std.specs.Prelude.{Option, Some, None}
 use Rattle.lines.specs.Show.{hex_digit, hex_digits, shown_set}
 use Rattle.lines.specs.Line.{digit, hexadecimal, hex_value, set_from, set_of, set_at}
-use Rattle.lines.proofs.Line.{drop-next, drop-end, digit_low}
+use Rattle.lines.specs.Reader.{hex_value_of}
+use Rattle.lines.proofs.Line.{drop-next, drop-end, digit_low, same_value, same_place}
 
 -- ---- one digit
 -- the digit of a number below 16 has it for its value, computed for each of them
@@ -42,6 +43,11 @@ letter b h q =
     let t : leb 97 b && leb b 102 ≡ true = rw q at h in
     (leb-true 97 b (fst (leb 97 b) (leb b 102) t), leb-true b 102 (snd (leb 97 b) (leb b 102) t))
 
+-- the answer for a byte
+pub digit_none : (b : ℕ) → ◌≡◌ {A = Option ℕ} None (hex_value_of b) → hexadecimal b ≡ false
+unfolding hex_value_of
+digit_none b e = by_cases (hexadecimal b) (λ q. let f : ◌≡◌ {A = Option ℕ} None (Some (hex_value b)) = rw q at e in cc) (λ q. q)
+
 -- the value of a digit is below 16 and has it for its digit
 value-digit : (b : ℕ) → hexadecimal b ≡ true → (hex_value b < 16) × (hex_digit (hex_value b) ≡ b)
 value-digit b h =
@@ -52,6 +58,16 @@ value-digit b h =
     (λ q.
     let l = letter b h q in
     rw (q, le-ltb (b - 87) 10 (omega arith)) (omega arith, omega arith))
+
+pub digit_some : (b v : ℕ) → Some v ≡ hex_value_of b → (hexadecimal b ≡ true) × (v ≡ hex_value b) × (v < 16)
+unfolding hex_value_of
+digit_some b v e =
+    by_cases (hexadecimal b)
+    (λ q.
+    let f : Some v ≡ Some (hex_value b) = rw q at e in
+    let g : v ≡ hex_value b = cc in
+    (q, g, omega (arith, (value-digit b q).0)))
+    (λ q. let f : ◌≡◌ {A = Option ℕ} (Some v) None = rw q at e in cc)
 
 -- ---- k digits
 digits-length : (k n : ℕ) → length (hex_digits k n) ≡ k
@@ -103,24 +119,24 @@ from-small k v (b ∷ ds) h a =
 
 -- ---- sets
 module _ (ds : List ℕ) (next : ℕ) where
-  set_good : length ds ≡ 16 → all hexadecimal ds ≡ true → Value (set_from 0 ds) next ≡ set_of ds next
+  set_good : length ds ≡ 16 → all hexadecimal ds ≡ true → Some (set_from 0 ds, next) ≡ set_of ds next
   unfolding set_of
   set_good n a = rw (eq-eqb (length ds) 16 n, a)
 
-  set-short : (length ds ≡ 16 → ⊥) → Bad ≡ set_of ds next
+  set-short : (length ds ≡ 16 → ⊥) → None ≡ set_of ds next
   unfolding set_of
   set-short n = rw (ne_eqb (length ds) 16 n)
 
-  set_other : all hexadecimal ds ≡ false → Bad ≡ set_of ds next
+  set_other : all hexadecimal ds ≡ false → None ≡ set_of ds next
   unfolding set_of
   set_other a = rw (a, and-false (eqb (length ds) 16))
 
-pub set-none : (s : List ℕ) (at : ℕ) → length s < at + 16 → Bad ≡ set_at s at
+pub set-none : (s : List ℕ) (at : ℕ) → length s < at + 16 → None ≡ set_at s at
 set-none s at h = set-short (take 16 (drop at s)) (at + 16) (λ e. omega (arith, length-take 16 (drop at s), length-drop at s))
 
 module _ (s : List ℕ) (at n : ℕ) where
   -- a set that is printed there is read
-  pub set_reads : (rest : List ℕ) → drop at s ≡ shown_set n ++ rest → n < 2 ^ 64 → set_at s at ≡ Value n (at + 16)
+  pub set_reads : (rest : List ℕ) → drop at s ≡ shown_set n ++ rest → n < 2 ^ 64 → set_at s at ≡ Some (n, at + 16)
   unfolding shown_set
   set_reads rest e h =
       let t : take 16 (drop at s) ≡ hex_digits 16 n = ap (take 16) e ∙ take_at (hex_digits 16 n) rest 16 (digits-length 16 n) in
@@ -128,15 +144,15 @@ module _ (s : List ℕ) (at n : ℕ) where
       ∙ rw (digits_value 16 n h))
 
   -- and one that is read is printed there
-  pub set_seen : (next : ℕ) → set_at s at ≡ Value n next → (drop at s ≡ shown_set n ++ drop next s) × (n < 2 ^ 64)
+  pub set_seen : (next : ℕ) → set_at s at ≡ Some (n, next) → (drop at s ≡ shown_set n ++ drop next s) × (n < 2 ^ 64)
   unfolding set_of shown_set
   set_seen next e =
       let ds : List ℕ = take 16 (drop at s) in
       by_cases (eqb (length ds) 16 && all hexadecimal ds)
       (λ q.
-      let f : Value (set_from 0 ds) (at + 16) ≡ Value n next = rw q at e in
-      let ev : set_from 0 ds ≡ n = cc in
-      let en : at + 16 ≡ next = cc in
+      let f : Some (set_from 0 ds, at + 16) ≡ Some (n, next) = rw q at e in
+      let ev : set_from 0 ds ≡ n = same_value f in
+      let en : at + 16 ≡ next = same_place f in
       let l : length ds ≡ 16 = eqb-true (length ds) 16 (fst (eqb (length ds) 16) (all hexadecimal ds) q) in
       let a = snd (eqb (length ds) 16) (all hexadecimal ds) q in
       let d : hex_digits 16 n ≡ ds = rw (l, ev) at (digits_append 0 0 ds a) in
@@ -144,10 +160,10 @@ module _ (s : List ℕ) (at n : ℕ) where
         sym (take-append-drop 16 (drop at s)) ∙ rw (drop-drop 16 at s, en) (ap (λ (m : List ℕ). m ++ drop next s) (sym d)),
         b,
       ))
-      (λ q. let f : Bad ≡ Value n next = rw q at e in let z : ◌≡◌ {A = ℕ} 0 1 = cc in absurd (omega arith))
+      (λ q. let f : None ≡ Some (n, next) = rw q at e in let z : ◌≡◌ {A = ℕ} 0 1 = cc in absurd (omega arith))
 
 -- at the start of a text
-pub printed_reads : (n : ℕ) (rest : List ℕ) → n < 2 ^ 64 → set_at (shown_set n ++ rest) 0 ≡ Value n 16
+pub printed_reads : (n : ℕ) (rest : List ℕ) → n < 2 ^ 64 → set_at (shown_set n ++ rest) 0 ≡ Some (n, 16)
 printed_reads n rest h = set_reads (shown_set n ++ rest) 0 n rest refl h
 
 pub printed_length : (n : ℕ) → length (shown_set n) ≡ 16
@@ -165,18 +181,18 @@ pub pass_none : (ds : List ℕ) → Passed ds 0 0
 pass_none ds = record { inside = omega arith; small = omega arith; test = refl; value = refl }
 
 module _ {ds : List ℕ} {i v : ℕ} (p : Passed ds i v) (n : length ds ≡ 16) where
-  pub pass_end : (next : ℕ) → length ds ≤ i → Value v next ≡ set_of ds next
+  pub pass_end : (next : ℕ) → length ds ≤ i → Some (v, next) ≡ set_of ds next
   pass_end next h =
       let e = drop-end ds i h in
       let a : all hexadecimal ds ≡ true = p.test ∙ rw e (unfold all in refl) in
       let w : set_from 0 ds ≡ v = p.value ∙ rw e in
-      ap (λ (x : ℕ). Value x next) (sym w) ∙ set_good ds next n a
+      ap (λ (x : ℕ). Some (x, next)) (sym w) ∙ set_good ds next n a
 
   module _ (h : i < length ds) where
     next_test : all hexadecimal ds ≡ hexadecimal (get_or ds i 0) && all hexadecimal (drop (i + 1) ds)
     next_test = p.test ∙ all-next hexadecimal ds i 0 h
 
-    pub pass_other : (next : ℕ) → hexadecimal (get_or ds i 0) ≡ false → Bad ≡ set_of ds next
+    pub pass_other : (next : ℕ) → hexadecimal (get_or ds i 0) ≡ false → None ≡ set_of ds next
     pass_other next e = set_other ds next (next_test ∙ rw e)
 
     -- the next digit and those before it have 64 bits

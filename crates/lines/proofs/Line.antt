@@ -1,22 +1,30 @@
 -- Laws of the parts of a command line.
-use Prim.Native.Nat.{ℕ, ◌+◌, ◌-◌, ◌*◌, ◌≤◌, ◌<◌}
+use Prim.Native.Nat.{ℕ, zero, suc, ◌+◌, ◌-◌, ◌*◌, ◌^◌, ◌≤◌, ◌<◌}
 use native.Mathlib.Omega.{arith}
 use native.Mathlib.Numerals.{add-one}
-use mathlib.Core.Path.{◌≡◌, refl, sym, ◌∙◌}
+use mathlib.Core.Path.{◌≡◌, refl, sym, ap, ◌∙◌}
 use mathlib.Core.List.{List, [], ◌∷◌}
-use mathlib.Core.Bool.{Bool, true, false, not, ◌&&◌, ◌||◌, false≢true, or-true}
-use mathlib.Core.Logic.{◌⊎◌, ⊎_elim}
+use mathlib.Core.Bool.{Bool, true, false, not, ◌&&◌, ◌||◌, false≢true}
+use mathlib.Core.Logic.{⊎_elim}
 use lib.Arith.{lt_of_le-ne}
-use native.Mathlib.Nat.{add-zero}
-use lib.ListN.{length, drop, get_or, drop_of_length-le, length-drop}
-use lib.Seq.{drop-cons, get_or-drop}
-use lib.Dec.{leb, eqb}
-use borrow.Author.Tests.{leb-true, le-leb, lt-leb, eq-eqb, ne_eqb}
-use Rattle.lines.specs.declared.Number.TheVariants.{Value, Bad}
-use Rattle.lines.specs.Grammar.{Kind}
-use Rattle.lines.specs.Line.{starts_with, digit, digits, value_from, value_of, decimal, number_at, value_at}
-use Rattle.lines.specs.Reader.{Digits, field_at}
-use Rattle.bits.proofs.Sets.{by_cases}
+use native.Mathlib.Nat.{pow-suc, pow-le-pow_right}
+use lib.ListN.{length, take, drop, get_or, drop_of_length-le, length-drop}
+use Rattle.std.proofs.lemmas.List.{take_all}
+use lib.Seq.{drop-cons}
+use lib.Pointwise.{pointwise}
+use denote.Ref.{Bor}
+use Rattle.std.specs.Prelude.{nat_eq, unwrap_or}
+use Rattle.std.specs.Bool.{then_some}
+use Rattle.std.specs.Slice.{IsGetRangeResult}
+use lib.Dec.{leb, ltb, eqb}
+use Rattle.std.proofs.lemmas.Bool.{leb-false}
+use Rattle.std.specs.List.{position, prefix_len}
+use Rattle.std.specs.Char.{is_ascii_digit}
+use borrow.Author.Tests.{leb-true, ltb-false, le-leb, lt-leb, eqb-false, eq-eqb, ne_eqb}
+use Rattle.std.specs.Prelude.{Option, Some, None}
+use Rattle.lines.specs.Line.{starts_with, digit, digits, value_from, value_of, decimal, number_at}
+use Rattle.bits.specs.Sets.{all}
+use Rattle.bits.proofs.Sets.{by_cases, fst, snd, both}
 
 pub drop-next : (s : List ℕ) (i : ℕ) → i < length s → drop i s ≡ get_or s i 0 ∷ drop (i + 1) s
 drop-next s i h = rw (add-one i) (drop-cons s i 0 h)
@@ -24,17 +32,28 @@ drop-next s i h = rw (add-one i) (drop-cons s i 0 h)
 pub drop-end : (s : List ℕ) (i : ℕ) → length s ≤ i → drop i s ≡ []
 drop-end s i h = drop_of_length-le s h
 
+-- ---- a value and the place after it
+pub same_value : {a b v n : ℕ} → ◌≡◌ {A = Option (ℕ × ℕ)} (Some (a, b)) (Some (v, n)) → a ≡ v
+same_value e = ap (λ (o : Option (ℕ × ℕ)). elim o [ Some p ↦ p.0 | None ↦ 0 ]) e
+
+pub same_place : {a b v n : ℕ} → ◌≡◌ {A = Option (ℕ × ℕ)} (Some (a, b)) (Some (v, n)) → b ≡ n
+same_place e = ap (λ (o : Option (ℕ × ℕ)). elim o [ Some p ↦ p.1 | None ↦ 0 ]) e
+
 -- ---- literals
+-- what stands at the start of a slice
+pub pointwise-starts : (w l : List ℕ) → pointwise nat_eq (take (length w) l) w ≡ starts_with w l
+pointwise-starts [] l = refl
+pointwise-starts (a ∷ w) [] = refl
+pointwise-starts (a ∷ w) (b ∷ l) = by_cases (eqb b a) (λ q. rw q (pointwise-starts w l)) (λ q. rw q)
 
-module _ (w s : List ℕ) (j i : ℕ) (hj : j < length w) where
-  pub starts_short : length s ≤ i → starts_with (drop j w) (drop i s) ≡ false
-  starts_short h = rw (drop-next w j hj, drop-end s i h) refl
+pub part-drop : (s : List ℕ) (at : ℕ) {x : List ℕ} → x ≡ take (length s - at) (drop at s) → x ≡ drop at s
+part-drop s at e = e ∙ take_all (length s - at) (drop at s) (omega (arith, length-drop at s))
 
-  pub starts_other : i < length s → (get_or s i 0 ≡ get_or w j 0 → ⊥) → starts_with (drop j w) (drop i s) ≡ false
-  starts_other h n = rw (drop-next w j hj, drop-next s i h, ne_eqb _ _ n) refl
-
-  pub starts_same : i < length s → get_or s i 0 ≡ get_or w j 0 → starts_with (drop j w) (drop i s) ≡ starts_with (drop (j + 1) w) (drop (i + 1) s)
-  starts_same h e = rw (drop-next w j hj, drop-next s i h, eq-eqb _ _ e) refl
+-- the rest of a slice from a place on, none of it past the end
+pub rest-drop : (s : List ℕ) (at : ℕ) (g : Option (Bor (List ℕ))) (d r : Bor (List ℕ)) → IsGetRangeResult s at (length s) g → d.now ≡ []
+    → r ≡ unwrap_or g d → r.now ≡ drop at s
+rest-drop s at None d r h e q = rw (q, e) (sym (drop_of_length-le s (⊎_elim (λ z. omega arith) (λ z. omega arith) h.0)))
+rest-drop s at (Some x) d r h e q = rw q (part-drop s at h.0.2)
 
 pub starts_length : (w l : List ℕ) → starts_with w l ≡ true → length w ≤ length l
 starts_length [] l e = omega arith
@@ -50,24 +69,26 @@ digit_low b e =
     (λ q. by_cases (leb b 57) (λ r. (leb-true 48 b q, leb-true b 57 r)) (λ r. absurd (false≢true (rw (q, r) at e))))
     (λ q. absurd (false≢true (rw q at e)))
 
-module _ (s : List ℕ) (i : ℕ) (h : i < length s) where
-  pub digits_stop : digit (get_or s i 0) ≡ false → digits (drop i s) ≡ []
-  digits_stop e = rw (drop-next s i h, e) refl
+pub digits-digits : (l : List ℕ) → all digit (digits l) ≡ true
+unfolding all
+digits-digits [] = refl
+digits-digits (b ∷ l) = by_cases (digit b) (λ q. rw q (both q (digits-digits l))) (λ q. rw q)
 
-  pub digits_more : digit (get_or s i 0) ≡ true → digits (drop i s) ≡ get_or s i 0 ∷ digits (drop (i + 1) s)
-  digits_more e = rw (drop-next s i h, e) refl
+-- the bytes before the first that is no digit
+prefix-digits : (s : List ℕ) → take (prefix_len (λ b. not (not (is_ascii_digit b))) s) s ≡ digits s
+prefix-digits [] = refl
+prefix-digits (b ∷ s) = by_cases (digit b)
+    (λ q.
+    let one : 1 + prefix_len (λ b. not (not (is_ascii_digit b))) s ≡ suc (prefix_len (λ b. not (not (is_ascii_digit b))) s) = omega arith in
+    rw (q, one) (ap (λ (l : List ℕ). b ∷ l) (prefix-digits s)))
+    (λ q. rw q)
 
-pub digits-end : (s : List ℕ) (i : ℕ) → length s ≤ i → digits (drop i s) ≡ []
-digits-end s i h = rw (drop-end s i h) refl
-
-pub value_grows : (v : ℕ) (ds : List ℕ) → v ≤ value_from v ds
-value_grows v [] = omega arith
-value_grows v (b ∷ ds) = omega (arith, value_grows (v * 10 + (b - 48)) ds)
-
--- the first of the digits is the byte that stands there
-pub digits-first : (l : List ℕ) → 0 < length (digits l) → get_or (digits l) 0 0 ≡ get_or l 0 0
-digits-first [] h = refl
-digits-first (b ∷ l) h = by_cases (digit b) (λ q. rw q refl) (λ q. absurd (omega (arith, rw q at h)))
+pub digits-take : (s : List ℕ) → take (unwrap_or (position (λ b. not (is_ascii_digit b)) s) (length s)) s ≡ digits s
+digits-take s =
+    by_cases (ltb (prefix_len (λ b. not (not (is_ascii_digit b))) s) (length s)) (λ q. rw q (prefix-digits s))
+    (λ q.
+    let l = ltb-false (prefix_len (λ b. not (not (is_ascii_digit b))) s) (length s) q in
+    rw q (take_all (length s) s (omega arith) ∙ sym (take_all _ s l) ∙ prefix-digits s))
 
 -- ---- the tests of a number, one at a time
 
@@ -102,70 +123,57 @@ module _ (ds : List ℕ) where
   unfolding decimal
   all_good a b c d = rw (le-leb _ _ a, le-leb _ _ b, le-leb _ _ c, d) refl
 
-module _ (s : List ℕ) (at : ℕ) where
-  bad_number : decimal (digits (drop at s)) ≡ false → Bad ≡ number_at s at
+module _ (s : List ℕ) (at : ℕ) (ds : List ℕ) (e : ds ≡ digits (drop at s)) where
+  num_bad : decimal ds ≡ false → None ≡ number_at s at
   unfolding number_at
-  bad_number e = rw e refl
+  num_bad q = let f : decimal (digits (drop at s)) ≡ false = rw e at q in rw f
 
-  pub num_large : (v : ℕ) (l : List ℕ) → value_of (digits (drop at s)) ≡ value_from v l → 4294967295 < v → Bad ≡ number_at s at
-  num_large v l e h = let g = value_grows v l in bad_number (not_large (digits (drop at s)) (omega arith))
+  pub num_empty : length ds ≡ 0 → None ≡ number_at s at
+  num_empty h = num_bad (not_empty ds h)
 
-  module _ (i v : ℕ) (D : Digits s at i v) where
-    pub num_none : i - at ≡ 0 → Bad ≡ number_at s at
-    num_none e = let q = D.end in bad_number (not_empty (digits (drop at s)) (omega arith))
+  pub num_long : 10 < length ds → None ≡ number_at s at
+  num_long h = num_bad (not-long ds h)
 
-    pub num_long : 10 < i - at → Bad ≡ number_at s at
-    num_long h = let q = D.end in bad_number (not-long (digits (drop at s)) (omega arith))
+  pub num_padded : 1 < length ds → get_or ds 0 0 ≡ 48 → None ≡ number_at s at
+  num_padded h z = num_bad (not-padded ds (λ o. omega arith) z)
 
-    first : (i - at ≡ 0 → ⊥) → get_or (digits (drop at s)) 0 0 ≡ get_or s at 0
-    first n =
-        let q = D.end in
-        let some : 0 < length (digits (drop at s)) = lt_of_le-ne (omega arith) (λ e. n (omega arith)) in
-        digits-first (drop at s) some ∙ get_or-drop at s 0 0 ∙ (rw (add-zero at) refl)
+  pub num_value : 1 ≤ length ds → length ds ≤ 10 → (1 < length ds → get_or ds 0 0 ≡ 48 → ⊥)
+      → then_some (leb (value_of ds) 4294967295) (value_of ds, at + length ds) ≡ number_at s at
+  unfolding number_at
+  num_value a b z =
+      let d : (eqb (length ds) 1 || not (eqb (get_or ds 0 0) 48)) ≡ true =
+      by_cases (eqb (length ds) 1) (λ q. rw q)
+      (λ q. rw (q, ne_eqb (get_or ds 0 0) 48 (z (lt_of_le-ne a (λ w. eqb-false (length ds) 1 q (sym w)))))) in
+      by_cases (leb (value_of ds) 4294967295)
+      (λ q. let ok : decimal ds ≡ true = all_good ds a b (leb-true (value_of ds) 4294967295 q) d in rw (sym e, q, ok))
+      (λ q. let no : decimal ds ≡ false = not_large ds (leb-false (value_of ds) 4294967295 q) in rw (sym e, q, no))
 
-    pub num_padded : (i - at ≡ 0 → ⊥) → (i - at ≡ 1 → ⊥) → get_or s at 0 ≡ 48 → Bad ≡ number_at s at
-    num_padded z n e =
-        let q = D.end in
-        bad_number (not-padded (digits (drop at s)) (λ o. n (omega arith)) (first z ∙ e))
+pub num_past : (s : List ℕ) (at : ℕ) → length s ≤ at → None ≡ number_at s at
+num_past s at h = num_empty s at [] (sym (rw (drop-end s at h))) refl
 
-    pub num_good : (i - at ≡ 0 → ⊥) → i - at ≤ 10 → ((i - at ≡ 1 → ⊥) × (get_or s at 0 ≡ 48 → ⊥)) ⊎ (i - at ≡ 1) → Value v i ≡ number_at s at
-    unfolding number_at
-    num_good z h o =
-        let ds : List ℕ = digits (drop at s) in
-        let q = D.end in
-        let some : 0 < length ds = lt_of_le-ne (omega arith) (λ e. z (omega arith)) in
-        let d : (eqb (length ds) 1 || not (eqb (get_or ds 0 0) 48)) ≡ true =
-        ⊎_elim
-        (λ w. rw (ne_eqb (get_or ds 0 0) 48 (λ e. w.1 (sym (first z) ∙ e))) (or-true (eqb (length ds) 1)))
-        (λ w. let one : length ds ≡ 1 = omega arith in rw one refl)
-        o in
-        let ok : decimal ds ≡ true = all_good ds (omega arith) (omega arith) (omega (arith, D.value, D.small)) d in
-        rw (ok, D.value, q) refl
+-- ---- the value of digits
+all_get : (q : ℕ → Bool) (l : List ℕ) → all q l ≡ true → (i : ℕ) → i < length l → q (get_or l i 0) ≡ true
+unfolding all
+all_get q [] a i h = absurd (omega arith)
+all_get q (x ∷ l) a zero h = fst (q x) (all q l) a
+all_get q (x ∷ l) a (suc i) h = all_get q l (snd (q x) (all q l) a) i (omega arith)
 
-pub digits-start : (s : List ℕ) (at i v : ℕ) → at ≤ i → i ≤ length s → v ≤ 4294967295
-    → value_of (digits (drop at s)) ≡ value_from v (digits (drop i s))
-    → at + length (digits (drop at s)) ≡ i + length (digits (drop i s)) → digits (drop i s) ≡ [] → Digits s at i v
-digits-start s at i v le h m ev el none =
-    let a : at + length (digits (drop at s)) ≡ i + 0 = rw none at el in
-    record {
-      end = omega arith;
-      value = sym (rw none at ev);
-      small = m;
-      within = h;
-    }
+-- after i of the digits ds, of value v
+pub record Valued (ds : List ℕ) (i v : ℕ) : Type 0 where
+  pub small : v < 10 ^ i
+  pub value : value_of ds ≡ value_from v (drop i ds)
 
-pub num_past : (s : List ℕ) (at : ℕ) → length s ≤ at → Bad ≡ number_at s at
-num_past s at h = bad_number s at (rw (drop-end s at h) (not_empty [] refl))
+module _ {ds : List ℕ} {i v : ℕ} (p : Valued ds i v) (a : all digit ds ≡ true) (n : length ds ≤ 10) (h : i < length ds) where
+  pub value_room : v < 10 ^ 9
+  value_room =
+      let k : i ≤ 9 = omega arith in
+      let l : 10 ^ i ≤ 10 ^ 9 = pow-le-pow_right (omega arith) k in
+      omega (arith, p.small)
 
--- ---- fields
-pub field_none : (k : Kind) (key s : List ℕ) (at : ℕ) → starts_with key (drop at s) ≡ false → Bad ≡ field_at k key s at
-unfolding field_at
-field_none k key s at e = rw e refl
+  pub value_digit : (48 ≤ get_or ds i 0) × (get_or ds i 0 ≤ 57)
+  value_digit = digit_low (get_or ds i 0) (all_get digit ds a i h)
 
-pub field_some : (k : Kind) (key s : List ℕ) (at : ℕ) → starts_with key (drop at s) ≡ true
-    → value_at k s (at + length key) ≡ field_at k key s at
-unfolding field_at
-field_some k key s at e = rw e refl
-
-pub key_fits : (key s : List ℕ) (at : ℕ) → starts_with key (drop at s) ≡ true → at + length key ≤ at + (length s - at)
-key_fits key s at e = omega (arith, starts_length key (drop at s) e, length-drop at s)
+  pub value_next : Valued ds (i + 1) (v * 10 + (get_or ds i 0 - 48))
+  value_next =
+      let d = value_digit in
+      record { small = rw (add-one i) (omega (arith, p.small, d.1, pow-suc 10 i)); value = p.value ∙ rw (drop-next ds i h) }

@@ -9,8 +9,7 @@ use lib.ListN.{length, drop, get_or, length-append, length-drop}
 use lib.Seq.{drop-drop}
 use lib.Dec.{eqb}
 use Rattle.bits.proofs.Sets.{by_cases, fst, snd, both}
-use Rattle.lines.specs.declared.Number.{Number}
-use Rattle.lines.specs.declared.Number.TheVariants.{Value, Bad}
+use Rattle.std.specs.Prelude.{Option, Some, None}
 use Rattle.lines.specs.Grammar.{Kind, number, set, Part, literal, value, count, shown_as, fits_as, written, within}
 use Rattle.lines.specs.Line.{starts_with, digit, digits, value_at, and_then, Got, Not, read_by}
 use Rattle.lines.proofs.Line.{drop-end}
@@ -19,13 +18,13 @@ use Rattle.lines.proofs.Values.{number_seen, number_read, starts_split, starts_s
 use Rattle.lines.proofs.Hexadecimal.{set_reads, set_seen, printed_length}
 
 -- ---- a value of either kind
-value_seen : (k : Kind) (s : List ℕ) (p v n : ℕ) → value_at k s p ≡ Value v n
+value_seen : (k : Kind) (s : List ℕ) (p v n : ℕ) → value_at k s p ≡ Some (v, n)
     → (drop p s ≡ shown_as k v ++ drop n s) × (fits_as k v ≡ true)
 value_seen number s p v n e = let h = number_seen s p v n e in (h.0, le-leb v 4294967295 h.1)
 value_seen set s p v n e = let h = set_seen s p v n e in (h.0, lt-ltb v (2 ^ 64) h.1)
 
 value_read : (k : Kind) (s : List ℕ) (p v : ℕ) (rest : List ℕ) → drop p s ≡ shown_as k v ++ rest → fits_as k v ≡ true → digits rest ≡ []
-    → value_at k s p ≡ Value v (p + length (shown_as k v))
+    → value_at k s p ≡ Some (v, p + length (shown_as k v))
 value_read number s p v rest e h stop = number_read s p v rest e (leb-true v 4294967295 h) stop
 value_read set s p v rest e h stop = rw (printed_length v) (set_reads s p v rest e (ltb-true v (2 ^ 64) h))
 
@@ -75,9 +74,9 @@ seen (literal c ∷ t) s p vs out e =
     (λ q. let f : Not ≡ Got out = rw q at e in let z : ◌≡◌ {A = ℕ} 0 1 = cc in absurd (omega arith))
 seen (value k ∷ t) s p vs out e = by_value (λ v n f. seen t s n (vs ++ (v ∷ [])) out f) (value_at k s p) refl e
   where
-    by_value : ((v n : ℕ) → read_by t s n (vs ++ (v ∷ [])) ≡ Got out → Seen t s n (vs ++ (v ∷ [])) out) → (r : Number) → value_at k s p ≡ r
+    by_value : ((v n : ℕ) → read_by t s n (vs ++ (v ∷ [])) ≡ Got out → Seen t s n (vs ++ (v ∷ [])) out) → (r : Option (ℕ × ℕ)) → value_at k s p ≡ r
         → and_then r Not (λ v n. read_by t s n (vs ++ (v ∷ []))) ≡ Got out → Seen (value k ∷ t) s p vs out
-    by_value go (Value v n) q f =
+    by_value go (Some (v, n)) q f =
         let i = go v n f in
         let h = value_seen k s p v n q in
         record {
@@ -87,7 +86,7 @@ seen (value k ∷ t) s p vs out e = by_value (λ v n f. seen t s n (vs ++ (v ∷
           many = ap suc i.many;
           fits = both h.1 i.fits;
         }
-    by_value go Bad q f = let z : ◌≡◌ {A = ℕ} 0 1 = cc in absurd (omega arith)
+    by_value go None q f = let z : ◌≡◌ {A = ℕ} 0 1 = cc in absurd (omega arith)
 
 -- ---- what is written is read, where no digit comes after a value
 -- no digit comes next

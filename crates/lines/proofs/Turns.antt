@@ -4,25 +4,30 @@ use Prim.Native.Nat.{ℕ, zero, suc, ◌+◌, ◌%◌, ◌≤◌, ◌<◌}
 use native.Mathlib.Omega.{arith}
 use native.Mathlib.Nat.{add-zero}
 use native.Mathlib.Numerals.{add-one}
-use mathlib.Core.Path.{◌≡◌, refl, sym, ◌∙◌}
-use mathlib.Core.Bool.{Bool, true, false, cond, false≢true}
-use mathlib.Core.List.{List, [], ◌∷◌, ◌++◌}
-use borrow.Author.Tests.{leb-true, ltb-true, ltb-false, ne_eqb}
-use lib.ListN.{length, drop, take, get_or, set as store, replicate, length-set}
-use lib.Seq.{take-suc-set, get_or-set_other}
+use mathlib.Core.Path.{◌≡◌, refl, sym, ap, ◌∙◌}
+use mathlib.Core.Bool.{true, false, cond}
+use mathlib.Core.List.{List, [], ◌∷◌, ◌++◌, map}
+use borrow.Author.Tests.{leb-true, ltb-true, ltb-false}
+use lib.ListN.{length, drop, take, get_or, set as store, replicate, length-set, drop_of_length-le, get_or-map}
+use lib.Seq.{take-suc-set, get_or-set_other, drop-cons}
 use lib.Dec.{eqb, ltb}
 use Rattle.bits.proofs.Sets.{by_cases, fst, snd, both}
-use Rattle.lines.specs.declared.Number.TheVariants.{Value, Bad}
+use Rattle.std.specs.Prelude.{Option, Some, None}
+use Rattle.std.specs.Bool.{then_some}
 use Rattle.lines.specs.declared.Parsed.{Parsed}
 use Rattle.lines.specs.declared.Parsed.TheVariants.{Malformed}
 use Rattle.lines.specs.Bytes.{bytes}
 use Rattle.lines.specs.Grammar.{Kind, number, set, Part, literal, value, count, fits_as, within}
-use Rattle.lines.specs.Grammar.{Form, Asks, applied, forms, form_of, meaning}
-use Rattle.lines.specs.Line.{starts_with, and_then, Read, Got, Not, read_by, values_by, or_else, parse_line}
-use Rattle.lines.specs.Reader.{field_at, key_text, key_kind, key_at, literals, keys_parts, parts_of, most, Blank, FilledAs, Only}
-use Rattle.lines.proofs.Line.{drop-next, drop-end, starts_length}
+use Rattle.lines.specs.Grammar.{Asks, applied, form_of, meaning}
+use Rattle.lines.specs.Line.{starts_with, value_at, number_at, set_at, and_then, Read, Got, Not, read_by, values_by, or_else, parse_line}
+use Rattle.lines.specs.declared.Key.{Key}
+use Rattle.lines.specs.declared.Key.TheVariants.{By, Who, To, Set, On, Right, Last, Now, Depth}
+use Rattle.lines.specs.declared.Verb.{Verb}
+use Rattle.lines.specs.declared.Verb.TheVariants.{Create, Delete, Allow, AllowSet, Withdraw, Drop, Lend, Recall, Shift, Sweep, Check}
+use Rattle.lines.specs.Reader.{after_at, field_at, key_text, key_kind, key_at, literals, keys_parts, parts_of, place, word_of, keys_of, most, ReadAs, Only}
+use Rattle.lines.proofs.Line.{drop-next, drop-end}
 use Rattle.lines.proofs.Patterns.{seen}
-use Rattle.lines.proofs.Verbs.{None, past, only_reads}
+use Rattle.lines.proofs.Verbs.{only_reads}
 
 -- a run of literal bytes
 literals_read : (w : List ℕ) (t : List Part) (s : List ℕ) (p : ℕ) (vs : List ℕ)
@@ -38,28 +43,91 @@ literals_read (c ∷ w) t s p vs =
     (λ q. rw (drop-end s p (ltb-false p (length s) q)))
 
 -- ---- the loop
--- after k keys, at p in the line, with k values in vs
-pub record At (w ks s vs : List ℕ) (p k : ℕ) : Type 0 where
+-- after the first k keys of ks, at p in the line, with their values in vs
+pub record At (w : List ℕ) (ks : List Key) (s vs : List ℕ) (p k : ℕ) : Type 0 where
   pub inside : k ≤ length ks
   pub room : length ks ≤ length vs
   pub left : values_by (parts_of w ks) s ≡ read_by (keys_parts (drop k ks)) s p (take k vs)
   pub blank : (j : ℕ) → k ≤ j → get_or vs j 0 ≡ 0
 
-filled_not : {x : Read} (out : List ℕ) → x ≡ Not → FilledAs x false out
-unfolding FilledAs
-filled_not out e = rw e refl
+-- what stands at a place, and the place after it
+after_yes : (w s : List ℕ) (at n : ℕ) → after_at w s at ≡ Some n → (starts_with w (drop at s) ≡ true) × (at + length w ≡ n)
+unfolding after_at
+after_yes w s at n e =
+    by_cases (starts_with w (drop at s)) (λ q. (q, let f : Some (at + length w) ≡ Some n = rw q at e in cc))
+    (λ q. let f : ◌≡◌ {A = Option ℕ} None (Some n) = rw q at e in cc)
 
-module _ (w ks s vs : List ℕ) (begins : starts_with (bytes "do=") s ≡ true) where
-  -- after the do= that the line begins with
-  after_do : values_by (parts_of w ks) s ≡ cond (starts_with w (drop 3 s)) (read_by (keys_parts ks) s (3 + length w) []) Not
-  after_do = literals_read (bytes "do=") (literals w (keys_parts ks)) s 0 [] ∙ rw begins (literals_read w (keys_parts ks) s 3 [])
+after_no : (w s : List ℕ) (at : ℕ) → after_at w s at ≡ None → starts_with w (drop at s) ≡ false
+unfolding after_at
+after_no w s at e =
+    by_cases (starts_with w (drop at s)) (λ q. let f : ◌≡◌ {A = Option ℕ} (Some (at + length w)) None = rw q at e in cc) (λ q. q)
 
-  pub word_other : starts_with w (drop 3 s) ≡ false → FilledAs (values_by (parts_of w ks) s) false vs
-  word_other e = filled_not vs (after_do ∙ rw e)
+-- ---- a key
+kind : (k : Key) → (k ≡ Set → ⊥) → key_kind k ≡ number
+kind By h = refl
+kind Who h = refl
+kind To h = refl
+kind Set h = absurd (h refl)
+kind On h = refl
+kind Right h = refl
+kind Last h = refl
+kind Now h = refl
+kind Depth h = refl
 
-  pub word_same : length ks ≤ most → Blank vs → starts_with w (drop 3 s) ≡ true → At w ks s vs (3 + length w) 0
-  unfolding Blank
-  word_same h b e = record { inside = omega arith; room = omega (arith, b.0); left = after_do ∙ rw e; blank = λ j m. b.1 j }
+module _ (k : Key) (s : List ℕ) (at : ℕ) {w : List ℕ} (t : w ≡ key_text k) where
+  pub key_none : None ≡ after_at w s at → None ≡ key_at k s at
+  unfolding key_at field_at
+  key_none e = let f = after_no w s at (sym e) in rw (rw t at f)
+
+  key_some : (v : ℕ) → Some v ≡ after_at w s at → value_at (key_kind k) s v ≡ key_at k s at
+  unfolding key_at field_at
+  key_some v e =
+      let f = after_yes w s at v (sym e) in
+      let p : at + length (key_text k) ≡ v = rw t at f.1 in
+      let q : starts_with (key_text k) (drop at s) ≡ true = rw t at f.0 in
+      rw (q, p)
+
+  pub key_set : {v : ℕ} → Some v ≡ after_at w s at → k ≡ Set → set_at s v ≡ key_at k s at
+  key_set {v} e q = rw (ap key_kind q) at (key_some v e)
+
+  pub key_number : {v : ℕ} → Some v ≡ after_at w s at → (k ≡ Set → ⊥) → number_at s v ≡ key_at k s at
+  key_number {v} e n = rw (kind k n) at (key_some v e)
+
+zeros : (n i : ℕ) → get_or {A = ℕ} (replicate n 0) i 0 ≡ 0
+zeros zero i = refl
+zeros (suc n) zero = refl
+zeros (suc n) (suc i) = zeros n i
+
+module _ (w : List ℕ) (ks : List Key) (s : List ℕ) where
+  -- do= and the word
+  head_read : values_by (parts_of w ks) s
+      ≡ cond (starts_with (bytes "do=") s) (cond (starts_with w (drop 3 s)) (read_by (keys_parts ks) s (3 + length w) []) Not) Not
+  head_read =
+      literals_read (bytes "do=") (literals w (keys_parts ks)) s 0 []
+      ∙ by_cases (starts_with (bytes "do=") s) (λ q. rw q (literals_read w (keys_parts ks) s 3 [])) (λ q. rw q)
+
+  pub do_other : after_at (bytes "do=") s 0 ≡ None → values_by (parts_of w ks) s ≡ Not
+  do_other e = head_read ∙ rw (after_no (bytes "do=") s 0 e)
+
+  module _ (p : ℕ) (d : after_at (bytes "do=") s 0 ≡ Some p) where
+    pub word_other : after_at w s p ≡ None → values_by (parts_of w ks) s ≡ Not
+    word_other e =
+        let h = after_yes (bytes "do=") s 0 p d in
+        let f : starts_with w (drop 3 s) ≡ false = rw (sym h.1) at (after_no w s p e) in
+        head_read ∙ rw (h.0, f)
+
+    pub word_same : (n : ℕ) → length ks ≤ most → after_at w s p ≡ Some n → At w ks s (replicate most 0) n 0
+    word_same n h e =
+        let b = after_yes (bytes "do=") s 0 p d in
+        let f = after_yes w s p n e in
+        let g : starts_with w (drop 3 s) ≡ true = rw (sym b.1) at f.0 in
+        let m : 3 + length w ≡ n = omega (arith, b.1, f.1) in
+        record {
+          inside = omega arith;
+          room = h;
+          left = head_read ∙ rw (b.0, g, m);
+          blank = λ j k. zeros most j;
+        }
 
 taken_blank : (vs : List ℕ) (k : ℕ) → ((j : ℕ) → k ≤ j → get_or vs j 0 ≡ 0) → (j : ℕ) → get_or vs j 0 ≡ get_or (take k vs) j 0
 taken_blank vs zero b j = b j (omega arith)
@@ -67,30 +135,38 @@ taken_blank [] (suc k) b j = refl
 taken_blank (v ∷ vs) (suc k) b zero = refl
 taken_blank (v ∷ vs) (suc k) b (suc j) = taken_blank vs k (λ i m. b (suc i) (omega arith)) j
 
-module _ {w ks s vs : List ℕ} {p k : ℕ} (a : At w ks s vs p k) where
+-- a line that is not read
+pub read_not : {x : Read} → x ≡ Not → ReadAs x None
+unfolding ReadAs
+read_not e = rw e tt
+
+module _ {w : List ℕ} {ks : List Key} {s vs : List ℕ} {p k : ℕ} (a : At w ks s vs p k) where
   -- the keys have ended
-  pub filled : length ks ≤ k → FilledAs (values_by (parts_of w ks) s) (eqb p (length s)) vs
-  unfolding FilledAs read_by
+  pub filled : length ks ≤ k → ReadAs (values_by (parts_of w ks) s) (then_some (eqb p (length s)) vs)
+  unfolding ReadAs read_by
   filled h =
       by_cases (eqb p (length s))
-      (λ q. rw (a.left, drop-end ks k h, q) (refl, taken_blank vs k a.blank))
-      (λ q. rw (a.left, drop-end ks k h, q) refl)
+      (λ q. rw (a.left, drop_of_length-le ks h, q) (taken_blank vs k a.blank))
+      (λ q. rw (a.left, drop_of_length-le ks h, q) tt)
 
-  module _ (h : k < length ks) where
+  module _ (h : k < length ks) (x : Key) (e : get_or ks k By ≡ x) where
+    at : drop k ks ≡ x ∷ drop (k + 1) ks
+    at = rw (add-one k, ← e) (drop-cons ks k By h)
+
     -- the next key
     next : values_by (parts_of w ks) s
-        ≡ and_then (key_at (get_or ks k 0) s p) Not (λ v n. read_by (keys_parts (drop (k + 1) ks)) s n (take k vs ++ (v ∷ [])))
+        ≡ and_then (key_at x s p) Not (λ v n. read_by (keys_parts (drop (k + 1) ks)) s n (take k vs ++ (v ∷ [])))
     unfolding read_by and_then key_at field_at
     next =
-        let t : List ℕ = key_text (get_or ks k 0) in
-        a.left ∙ rw (drop-next ks k h, literals_read t (value (key_kind (get_or ks k 0)) ∷ keys_parts (drop (k + 1) ks)) s p (take k vs))
+        let t : List ℕ = key_text x in
+        a.left ∙ rw (at, literals_read t (value (key_kind x) ∷ keys_parts (drop (k + 1) ks)) s p (take k vs))
         (by_cases (starts_with t (drop p s)) (λ q. rw q) (λ q. rw q))
 
-    pub key_stop : key_at (get_or ks k 0) s p ≡ Bad → FilledAs (values_by (parts_of w ks) s) false vs
+    pub key_stop : key_at x s p ≡ None → values_by (parts_of w ks) s ≡ Not
     unfolding and_then
-    key_stop q = filled_not vs (next ∙ rw q)
+    key_stop q = next ∙ rw q
 
-    pub key_turn : (v n : ℕ) → key_at (get_or ks k 0) s p ≡ Value v n → At w ks s (store vs k v) n (k + 1)
+    pub key_turn : (v n : ℕ) → key_at x s p ≡ Some (v, n) → At w ks s (store vs k v) n (k + 1)
     unfolding and_then
     key_turn v n q =
         record {
@@ -101,20 +177,19 @@ module _ {w ks s vs : List ℕ} {p k : ℕ} (a : At w ks s vs p k) where
         }
 
 -- ---- the whole line
-pub blank : Blank (replicate most 0)
-unfolding Blank
-blank = (refl, λ i. zeros most i)
-  where
-    zeros : (n i : ℕ) → get_or {A = ℕ} (replicate n 0) i 0 ≡ 0
-    zeros zero i = refl
-    zeros (suc n) zero = refl
-    zeros (suc n) (suc i) = zeros n i
-
--- past the last verb there is no line that begins with do=
-pub past-not : (v : ℕ) (s vs : List ℕ) → None (length forms) v → starts_with (bytes "do=") s ≡ true
-    → FilledAs (values_by (form_of v).pattern s) false vs
-unfolding read_by
-past-not v s vs h e = filled_not vs (rw (past v h) (rw (ne_eqb 0 (length s) (λ z. omega (arith, starts_length (bytes "do=") s e)))))
+-- the pattern of a verb's word and keys is the one that the grammar shows, and has room
+pub verb_parts : (v : Verb) → (parts_of (word_of v) (keys_of v) ≡ (form_of (place v)).pattern) × (length (keys_of v) ≤ most)
+verb_parts Create = (refl, omega arith)
+verb_parts Delete = (refl, omega arith)
+verb_parts Allow = (refl, omega arith)
+verb_parts AllowSet = (refl, omega arith)
+verb_parts Withdraw = (refl, omega arith)
+verb_parts Drop = (refl, omega arith)
+verb_parts Lend = (refl, omega arith)
+verb_parts Recall = (refl, omega arith)
+verb_parts Shift = (refl, omega arith)
+verb_parts Sweep = (refl, omega arith)
+verb_parts Check = (refl, omega arith)
 
 -- a form asks for the same by values that are the same
 same-applied : (n : ℕ) (f : Asks n) (k : ℕ) (out vs : List ℕ) → ((i : ℕ) → get_or out i 0 ≡ get_or vs i 0)
@@ -152,59 +227,59 @@ within-next k t [] i h = (fits-zero k, within_none t)
 within-next k t (v ∷ vs) zero h = (fst (fits_as k v) (within t vs) h, snd (fits_as k v) (within t vs) h)
 within-next k t (v ∷ vs) (suc i) h = within-next k t vs i h
 
--- what the code hands on for a value: of a number, the lowest 32 bits
-abbrev pub narrow : Kind → ℕ → ℕ
-narrow number v = v % 4294967296
-narrow set v = v
+-- what a form asks for by the values vs, where the code hands on ns for its numbers
+abbrev pub narrowed : (t : List Part) → Asks (count t) → ℕ → List ℕ → List ℕ → Parsed
+narrowed [] x i ns vs = x
+narrowed (literal c ∷ t) f i ns vs = narrowed t f i ns vs
+narrowed (value number ∷ t) f i ns vs = narrowed t (f (get_or ns i 0)) (suc i) ns vs
+narrowed (value set ∷ t) f i ns vs = narrowed t (f (get_or vs i 0)) (suc i) ns vs
 
--- what a form asks for with values so narrowed
-abbrev pub narrowed : (t : List Part) → Asks (count t) → ℕ → List ℕ → Parsed
-narrowed [] x i vs = x
-narrowed (literal c ∷ t) f i vs = narrowed t f i vs
-narrowed (value k ∷ t) f i vs = narrowed t (f (narrow k (get_or vs i 0))) (suc i) vs
-
-narrow_fits : (k : Kind) (v : ℕ) → fits_as k v ≡ true → narrow k v ≡ v
-narrow_fits number v h = let l = leb-true v 4294967295 h in omega arith
-narrow_fits set v h = refl
-
--- values within their limits lose nothing
+-- numbers lose nothing in their lowest 32 bits where they are within their limit
 narrow_applied : (t : List Part) (f : Asks (count t)) (i : ℕ) (vs : List ℕ) → within t (drop i vs) ≡ true
-    → narrowed t f i vs ≡ applied (count t) f i vs
+    → narrowed t f i (map (λ v. v % 4294967296) vs) vs ≡ applied (count t) f i vs
 narrow_applied [] x i vs h = refl
 narrow_applied (literal c ∷ t) f i vs h = narrow_applied t f i vs h
-narrow_applied (value k ∷ t) f i vs h =
-    let b = within-next k t vs i h in
-    rw (narrow_fits k (get_or vs i 0) b.0) (narrow_applied t (f (get_or vs i 0)) (suc i) vs b.1)
+narrow_applied (value number ∷ t) f i vs h =
+    let b = within-next number t vs i h in
+    let l = leb-true (get_or vs i 0) 4294967295 b.0 in
+    let e : get_or (map (λ v. v % 4294967296) vs) i 0 ≡ get_or vs i 0 =
+    get_or-map (λ (v : ℕ). v % 4294967296) vs i 0 ∙ omega arith in
+    rw e (narrow_applied t (f (get_or vs i 0)) (suc i) vs b.1)
+narrow_applied (value set ∷ t) f i vs h =
+    let b = within-next set t vs i h in
+    narrow_applied t (f (get_or vs i 0)) (suc i) vs b.1
 
-pub narrow_meaning : (u : ℕ) (vs : List ℕ) {v : ℕ} → v ≡ u → within (form_of v).pattern vs ≡ true
-    → narrowed (form_of u).pattern (form_of u).asks 0 vs ≡ meaning (form_of v) vs
+pub narrow_meaning : (w : Verb) (ns vs : List ℕ) {v : Verb} → v ≡ w → ns ≡ map (λ v. v % 4294967296) vs
+    → within (form_of (place v)).pattern vs ≡ true
+    → narrowed (form_of (place w)).pattern (form_of (place w)).asks 0 ns vs ≡ meaning (form_of (place v)) vs
 unfolding meaning
-narrow_meaning u vs e h = rw e (narrow_applied (form_of u).pattern (form_of u).asks 0 vs (rw e at h))
+narrow_meaning w ns vs e m h =
+    rw (e, m) (narrow_applied (form_of (place w)).pattern (form_of (place w)).asks 0 vs (rw e at h))
 
 -- ---- what parse makes of the values
-module _ (f : Form) (r : Bool) (out : List ℕ) where
-  meant : (x : Read) → FilledAs x r out → r ≡ true → meaning f out ≡ or_else f x Malformed
-  unfolding FilledAs or_else meaning
-  meant (Got vs) h e = same-applied (count f.pattern) f.asks 0 out vs h.1
-  meant Not h e = absurd (false≢true (sym h ∙ e))
+module _ (s : List ℕ) (v : ℕ) where
+  -- the values that were read are within their limits
+  pub parse_within : (out : List ℕ) → ReadAs (values_by (form_of v).pattern s) (Some out) → within (form_of v).pattern out ≡ true
+  unfolding ReadAs
+  parse_within out h = from (values_by (form_of v).pattern s) refl h
+    where
+      from : (x : Read) → values_by (form_of v).pattern s ≡ x → ReadAs x (Some out) → within (form_of v).pattern out ≡ true
+      from (Got vs) q h = let i = seen (form_of v).pattern s 0 [] vs q in same-within (form_of v).pattern out vs h (rw i.whole i.fits)
+      from Not q h = absurd h
 
-  unmeant : (x : Read) → FilledAs x r out → r ≡ false → Malformed ≡ or_else f x Malformed
-  unfolding FilledAs or_else
-  unmeant (Got vs) h e = absurd (false≢true (sym e ∙ h.0))
-  unmeant Not h e = refl
+  module _ (o : Only s v) where
+    pub parse_got : (out : List ℕ) → ReadAs (values_by (form_of v).pattern s) (Some out) → meaning (form_of v) out ≡ parse_line s
+    unfolding ReadAs or_else meaning
+    parse_got out h = from (values_by (form_of v).pattern s) refl h ∙ sym (only_reads s v o)
+      where
+        from : (x : Read) → values_by (form_of v).pattern s ≡ x → ReadAs x (Some out) → meaning (form_of v) out ≡ or_else (form_of v) x Malformed
+        from (Got vs) q h = same-applied (count (form_of v).pattern) (form_of v).asks 0 out vs h
+        from Not q h = absurd h
 
--- the values that were read are within their limits
-pub parse_within : (t : List Part) (s : List ℕ) (r : Bool) (out : List ℕ) → FilledAs (values_by t s) r out → r ≡ true → within t out ≡ true
-unfolding FilledAs
-parse_within t s r out h e = from (values_by t s) refl h
-  where
-    from : (x : Read) → values_by t s ≡ x → FilledAs x r out → within t out ≡ true
-    from (Got vs) q h = let i = seen t s 0 [] vs q in same-within t out vs h.1 (rw i.whole i.fits)
-    from Not q h = absurd (false≢true (sym h ∙ e))
-
-module _ (s : List ℕ) (v : ℕ) (r : Bool) (out : List ℕ) (o : Only s v) (h : FilledAs (values_by (form_of v).pattern s) r out) where
-  pub parse_got : r ≡ true → meaning (form_of v) out ≡ parse_line s
-  parse_got t = meant (form_of v) r out _ h t ∙ sym (only_reads s v o)
-
-  pub parse_not : r ≡ false → Malformed ≡ parse_line s
-  parse_not t = unmeant (form_of v) r out _ h t ∙ sym (only_reads s v o)
+    pub parse_not : ReadAs (values_by (form_of v).pattern s) None → Malformed ≡ parse_line s
+    unfolding ReadAs or_else
+    parse_not h = from (values_by (form_of v).pattern s) h ∙ sym (only_reads s v o)
+      where
+        from : (x : Read) → ReadAs x None → Malformed ≡ or_else (form_of v) x Malformed
+        from (Got vs) h = absurd h
+        from Not h = refl

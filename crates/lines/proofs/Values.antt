@@ -10,10 +10,10 @@ use lib.Seq.{drop-drop, drop-append_seam}
 use lib.Dec.{eqb, leb, ltb}
 use Rattle.bits.specs.Sets.{all}
 use Rattle.bits.proofs.Sets.{by_cases, fst, snd, both, either, all_append}
-use Rattle.lines.specs.declared.Number.TheVariants.{Value, Bad}
+use Rattle.std.specs.Prelude.{Some, None}
 use Rattle.lines.specs.Show.{shown, shown_in}
 use Rattle.lines.specs.Line.{starts_with, digit, digits, value_from, value_of, decimal, number_at}
-use Rattle.lines.proofs.Line.{digit_low}
+use Rattle.lines.proofs.Line.{digit_low, digits-digits, same_value, same_place}
 use Rattle.lines.proofs.Decimal.{shown-one, shown_more, shown_more_length, shown-width, shown-value}
 
 -- ---- digits
@@ -21,11 +21,6 @@ use Rattle.lines.proofs.Decimal.{shown-one, shown_more, shown_more_length, shown
 digits_split : (l : List ℕ) → l ≡ digits l ++ drop (length (digits l)) l
 digits_split [] = refl
 digits_split (b ∷ l) = by_cases (digit b) (λ q. rw q (ap (λ (m : List ℕ). b ∷ m) (digits_split l))) (λ q. rw q)
-
-digits-digits : (l : List ℕ) → all digit (digits l) ≡ true
-unfolding all
-digits-digits [] = refl
-digits-digits (b ∷ l) = by_cases (digit b) (λ q. rw q (both q (digits-digits l))) (λ q. rw q)
 
 digits-all : (a b : List ℕ) → all digit a ≡ true → digits b ≡ [] → digits (a ++ b) ≡ a
 unfolding all
@@ -133,23 +128,23 @@ decimal-small ds e = leb-true (value_of ds) 4294967295 (fst _ _ (snd (leb (lengt
 
 module _ (s : List ℕ) (at v : ℕ) where
   -- a number that is read is shown there
-  pub number_seen : (n : ℕ) → number_at s at ≡ Value v n → (drop at s ≡ shown v ++ drop n s) × (v ≤ 4294967295)
+  pub number_seen : (n : ℕ) → number_at s at ≡ Some (v, n) → (drop at s ≡ shown v ++ drop n s) × (v ≤ 4294967295)
   unfolding number_at
   number_seen n e =
       by_cases (decimal (digits (drop at s)))
       (λ q.
-      let f : Value (value_of (digits (drop at s))) (at + length (digits (drop at s))) ≡ Value v n = rw q at e in
-      let ev : value_of (digits (drop at s)) ≡ v = cc in
-      let en : at + length (digits (drop at s)) ≡ n = cc in (
+      let f : Some (value_of (digits (drop at s)), at + length (digits (drop at s))) ≡ Some (v, n) = rw q at e in
+      let ev : value_of (digits (drop at s)) ≡ v = same_value f in
+      let en : at + length (digits (drop at s)) ≡ n = same_place f in (
         digits_split (drop at s) ∙ rw (drop-drop (length (digits (drop at s))) at s, en)
             (ap (λ (l : List ℕ). l ++ drop n s) (sym (shown-digits (digits (drop at s)) (digits-digits (drop at s)) q) ∙ ap shown ev)),
         omega (arith, decimal-small (digits (drop at s)) q),
       ))
-      (λ q. let f : Bad ≡ Value v n = rw q at e in let z : ◌≡◌ {A = ℕ} 0 1 = cc in absurd (omega arith))
+      (λ q. let f : None ≡ Some (v, n) = rw q at e in let z : ◌≡◌ {A = ℕ} 0 1 = cc in absurd (omega arith))
 
   -- and one that is shown there is read
   pub number_read : (rest : List ℕ) → drop at s ≡ shown v ++ rest → v ≤ 4294967295 → digits rest ≡ []
-      → number_at s at ≡ Value v (at + length (shown v))
+      → number_at s at ≡ Some (v, at + length (shown v))
   unfolding number_at
   number_read rest e h stop =
       let d : digits (drop at s) ≡ shown v = ap digits e ∙ digits-all (shown v) rest (unfold shown in (shown-all (suc v) v)) stop in

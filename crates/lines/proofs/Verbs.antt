@@ -3,11 +3,11 @@
 use Prim.Native.Nat.{ℕ, zero, suc, ◌+◌, ◌%◌, ◌≤◌, ◌<◌}
 use native.Mathlib.Omega.{arith}
 use mathlib.Core.Path.{◌≡◌, refl, sym, ap, ◌∙◌}
-use mathlib.Core.Bool.{Bool, true, ◌&&◌}
+use mathlib.Core.Bool.{Bool, true, ◌&&◌, cond}
 use mathlib.Core.List.{List, [], ◌∷◌}
 use lib.Arith.{lt_of_le-ne}
 use borrow.Author.Tests.{leb-true, ltb-true, eqb-true, eqb-false}
-use lib.ListN.{length, get_or, get_or-eq_default}
+use lib.ListN.{length, get_or}
 use lib.Dec.{eqb, leb, ltb}
 use Rattle.bits.specs.Sets.{all, all_below}
 use Rattle.bits.proofs.Sets.{by_cases, fst, snd}
@@ -56,16 +56,25 @@ unfolding begins
 verb_begins v ws h = starts_written (bytes "do=") (form_of v).pattern ws (below (length forms) begins all_begin v h)
 
 -- ---- bytes 5 and 9 of a line tell its verb
--- the verb by a number below 64, as the code has it: @ for the first, a for the next
-abbrev pub verbs : List ℕ
-verbs = bytes "@@@g@@@i@@@ha@b@@c@@@d@@@@@@j@@@@@@@@@@fe@@@@@@@@@@@@@@@@@@@@@@@"
+-- the verb by the rest of their sum by 64, as the code has it
+abbrev pub verb_by : ℕ → ℕ
+verb_by k =
+    cond (eqb k 12) 1 (cond (eqb k 14) 2 (cond (eqb k 17) 3 (cond (eqb k 21) 4 (cond (eqb k 40) 5 (
+    cond (eqb k 39) 6 (cond (eqb k 3) 7 (cond (eqb k 11) 8 (cond (eqb k 7) 9 (cond (eqb k 28) 10 0)))))))))
 
 abbrev pub verb_at : List ℕ → ℕ
-verb_at s = get_or verbs ((get_or s 5 0 + get_or s 9 0) % 64) 0 % 32
+verb_at s = verb_by ((get_or s 5 0 + get_or s 9 0) % 64)
 
-pub verb-fits : (i : ℕ) → get_or verbs i 0 % 32 < length forms
-unfolding all
-verb-fits i = ltb-true _ (length forms) (at_place (λ b. ltb (b % 32) (length forms)) verbs 0 refl refl i)
+verb-small : ℕ → Bool
+verb-small k = ltb (verb_by k) (length forms)
+
+all_small : all_below 64 verb-small ≡ true
+unfolding verb-small all_below
+all_small = refl
+
+pub verb-fits : (k : ℕ) → verb_by (k % 64) < length forms
+unfolding verb-small
+verb-fits k = ltb-true _ (length forms) (below 64 verb-small all_small (k % 64) (omega arith))
 
 tells : ℕ → Bool
 tells v = leb 10 (length (prefix (form_of v).pattern)) && eqb (verb_at (prefix (form_of v).pattern)) v
@@ -88,6 +97,12 @@ unfolding Only
 only-told s u vs h e =
     let i = seen (form_of u).pattern s 0 [] vs e in
     sym (ap verb_at i.text ∙ verb-told u i.ws h)
+
+-- the same of two bytes that are read for the sum
+pub only_by : (s : List ℕ) {x y k : ℕ} (v : ℕ) → x ≡ get_or s 5 0 → y ≡ get_or s 9 0 → (x + y) % 64 ≡ k → verb_by k ≡ v → Only s v
+only_by s v a b e h =
+    let t : verb_at s ≡ v = ap verb_by (rw (a, b) at e) ∙ h in
+    rw t at (only-told s)
 
 -- ---- so one form decides what the line asks for
 -- no form of fs but the one at v reads s
@@ -124,16 +139,3 @@ one_reads (f ∷ fs) s (suc v) h =
 pub only_reads : (s : List ℕ) (v : ℕ) → Only s v → parse_line s ≡ or_else (form_of v) (values_by (form_of v).pattern s) Malformed
 unfolding parse_line Only OnlyOf
 only_reads s v h = one_reads forms s v h
-
--- ---- past the last verb
--- a number that is none of the first n
-abbrev pub None : ℕ → ℕ → Type 0
-None zero v = Unit
-None (suc n) v = None n v × (v ≡ n → ⊥)
-
-at_least : (n v : ℕ) → None n v → n ≤ v
-at_least zero v h = omega arith
-at_least (suc n) v h = lt_of_le-ne (at_least n v h.0) (λ e. h.1 (sym e))
-
-pub past : (v : ℕ) → None (length forms) v → form_of v ≡ no_form
-past v h = get_or-eq_default forms no_form {n = v} (at_least (length forms) v h)

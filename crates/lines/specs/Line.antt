@@ -1,8 +1,6 @@
 -- What a line asks for, read by the patterns of the grammar. A line stands here without its byte 10.
-use Rattle.std.specs.Prelude.{Bool, true, false, not, ◌&&◌, ◌||◌, cond, List, [], ◌∷◌, ◌++◌, ℕ, ◌+◌, ◌-◌, ◌*◌, length, take, drop, get_or, eqb, leb}
+use Rattle.std.specs.Prelude.{Option, Some, None, Bool, true, false, not, ◌&&◌, ◌||◌, cond, List, [], ◌∷◌, ◌++◌, ℕ, ◌+◌, ◌-◌, ◌*◌, length, take, drop, get_or, eqb, leb}
 use Rattle.bits.specs.Sets.{all}
-use Rattle.lines.specs.declared.Number.{Number}
-use Rattle.lines.specs.declared.Number.TheVariants.{Value, Bad}
 use Rattle.lines.specs.declared.Parsed.{Parsed}
 use Rattle.lines.specs.declared.Parsed.TheVariants.{Malformed}
 use Rattle.lines.specs.Grammar.{Kind, number, set, Part, literal, value, Form, forms, meaning}
@@ -37,8 +35,8 @@ unfoldable pub decimal : List ℕ → Bool
 decimal ds = leb 1 (length ds) && (leb (length ds) 10 && (leb (value_of ds) 4294967295 && (eqb (length ds) 1 || not (eqb (get_or ds 0 0) 48))))
 
 -- the number that stands in s at a place, with the place after it
-unfoldable pub number_at : List ℕ → ℕ → Number
-number_at s at = cond (decimal (digits (drop at s))) (Value (value_of (digits (drop at s))) (at + length (digits (drop at s)))) Bad
+unfoldable pub number_at : List ℕ → ℕ → Option (ℕ × ℕ)
+number_at s at = cond (decimal (digits (drop at s))) (Some (value_of (digits (drop at s)), at + length (digits (drop at s)))) None
 
 -- a byte that is a lowercase hexadecimal digit
 abbrev pub hexadecimal : ℕ → Bool
@@ -54,15 +52,15 @@ set_from v [] = v
 set_from v (b ∷ l) = set_from (v * 16 + hex_value b) l
 
 -- the set that the bytes ds are, where next is the place after them: '16 lowercase hexadecimal digits'
-unfoldable pub set_of : List ℕ → ℕ → Number
-set_of ds next = cond (eqb (length ds) 16 && all hexadecimal ds) (Value (set_from 0 ds) next) Bad
+unfoldable pub set_of : List ℕ → ℕ → Option (ℕ × ℕ)
+set_of ds next = cond (eqb (length ds) 16 && all hexadecimal ds) (Some (set_from 0 ds, next)) None
 
 -- the set that stands in s at a place, with the place after it
-abbrev pub set_at : List ℕ → ℕ → Number
+abbrev pub set_at : List ℕ → ℕ → Option (ℕ × ℕ)
 set_at s at = set_of (take 16 (drop at s)) (at + 16)
 
 -- the value of a kind that stands in s at a place
-abbrev pub value_at : Kind → List ℕ → ℕ → Number
+abbrev pub value_at : Kind → List ℕ → ℕ → Option (ℕ × ℕ)
 value_at number s at = number_at s at
 value_at set s at = set_at s at
 
@@ -73,9 +71,9 @@ pub data Read : Type 0 where
   Not : Read
 
 -- goes on with a value and the place after it, or gives up
-unfoldable pub and_then : {A : Type 0} → Number → A → (ℕ → ℕ → A) → A
-and_then (Value v n) bad f = f v n
-and_then Bad bad f = bad
+unfoldable pub and_then : {A : Type 0} → Option (ℕ × ℕ) → A → (ℕ → ℕ → A) → A
+and_then (Some (v, n)) bad f = f v n
+and_then None bad f = bad
 
 -- reads s from place p on by what is left of a pattern, after the values vs; nothing comes after the pattern's end
 unfoldable pub read_by : List Part → List ℕ → ℕ → List ℕ → Read

@@ -1,42 +1,52 @@
 -- Terms of the contracts of the reader's own functions. No theorem names them: what `parse` says is `parse_line`.
-use Rattle.std.specs.Prelude.{◌≡◌, Bool, true, false, cond, List, [], ◌∷◌, ℕ, ◌+◌, ◌≤◌, ◌<◌, length, drop, get_or, eqb}
-use Rattle.lines.specs.declared.Number.{Number}
-use Rattle.lines.specs.declared.Number.TheVariants.{Bad}
+use Rattle.std.specs.Prelude.{◌≡◌, Option, Some, None, cond, List, [], ◌∷◌, ℕ, ◌+◌, ◌<◌, length, drop, get_or}
+use Rattle.lines.specs.declared.Key.{Key}
+use Rattle.lines.specs.declared.Key.TheVariants.{By, Who, To, Set, On, Right, Last, Now, Depth}
+use Rattle.lines.specs.declared.Verb.{Verb}
+use Rattle.lines.specs.declared.Verb.TheVariants.{Create, Delete, Allow, AllowSet, Withdraw, Drop, Lend, Recall, Shift, Sweep, Check}
 use Rattle.lines.specs.Bytes.{bytes}
 use Rattle.lines.specs.Grammar.{Kind, number, set, Part, literal, value, forms, form_of}
-use Rattle.lines.specs.Line.{starts_with, digits, value_of, value_at, Read, Got, Not, values_by}
+use Rattle.lines.specs.Line.{starts_with, hexadecimal, hex_value, value_at, Read, Got, Not, values_by}
 
--- the digits of s from at on end at i, and have the value v
-pub record Digits (s : List ℕ) (at i v : ℕ) : Type 0 where
-  pub end : i ≡ at + length (digits (drop at s))
-  pub value : v ≡ value_of (digits (drop at s))
-  pub small : v ≤ 4294967295
-  pub within : i ≤ length s
+-- the place after the bytes of w, where they stand at a place of s
+unfoldable pub after_at : List ℕ → List ℕ → ℕ → Option ℕ
+after_at w s at = cond (starts_with w (drop at s)) (Some (at + length w)) None
+
+-- the value of a lowercase hexadecimal digit
+unfoldable pub hex_value_of : ℕ → Option ℕ
+hex_value_of b = cond (hexadecimal b) (Some (hex_value b)) None
 
 -- the bytes of key at a place of s, and the value after them
-unfoldable pub field_at : Kind → List ℕ → List ℕ → ℕ → Number
-field_at k key s at = cond (starts_with key (drop at s)) (value_at k s (at + length key)) Bad
+unfoldable pub field_at : Kind → List ℕ → List ℕ → ℕ → Option (ℕ × ℕ)
+field_at k key s at = cond (starts_with key (drop at s)) (value_at k s (at + length key)) None
 
--- ---- a pattern as the code has it: a word, and a letter for each key
--- the bytes of a key, by its letter: b, w, t, s, o, r, l, n, and any other for depth
-abbrev pub key_text : ℕ → List ℕ
-key_text k =
-    cond (eqb k 98) (bytes " by=") (
-    cond (eqb k 119) (bytes " who=") (
-    cond (eqb k 116) (bytes " to=") (
-    cond (eqb k 115) (bytes " set=") (
-    cond (eqb k 111) (bytes " on=") (
-    cond (eqb k 114) (bytes " right=") (
-    cond (eqb k 108) (bytes " last=") (
-    cond (eqb k 110) (bytes " now=") (
-    bytes " depth="))))))))
+-- ---- a pattern as the code has it: a word and keys
+-- the bytes of a key
+abbrev pub key_text : Key → List ℕ
+key_text By = bytes " by="
+key_text Who = bytes " who="
+key_text To = bytes " to="
+key_text Set = bytes " set="
+key_text On = bytes " on="
+key_text Right = bytes " right="
+key_text Last = bytes " last="
+key_text Now = bytes " now="
+key_text Depth = bytes " depth="
 
 -- the kind of its value
-abbrev pub key_kind : ℕ → Kind
-key_kind k = cond (eqb k 115) set number
+abbrev pub key_kind : Key → Kind
+key_kind By = number
+key_kind Who = number
+key_kind To = number
+key_kind Set = set
+key_kind On = number
+key_kind Right = number
+key_kind Last = number
+key_kind Now = number
+key_kind Depth = number
 
 -- the value of a key at a place of s
-unfoldable pub key_at : ℕ → List ℕ → ℕ → Number
+unfoldable pub key_at : Key → List ℕ → ℕ → Option (ℕ × ℕ)
 key_at k s at = field_at (key_kind k) (key_text k) s at
 
 -- a run of bytes before the rest of a pattern
@@ -45,27 +55,67 @@ literals [] t = t
 literals (c ∷ w) t = literal c ∷ literals w t
 
 -- the pattern of keys
-abbrev pub keys_parts : List ℕ → List Part
+abbrev pub keys_parts : List Key → List Part
 keys_parts [] = []
 keys_parts (k ∷ ks) = literals (key_text k) (value (key_kind k) ∷ keys_parts ks)
 
 -- the pattern of a verb's word and keys
-abbrev pub parts_of : List ℕ → List ℕ → List Part
+abbrev pub parts_of : List ℕ → List Key → List Part
 parts_of w ks = literals (bytes "do=") (literals w (keys_parts ks))
+
+-- the place of a verb in the grammar's list
+abbrev pub place : Verb → ℕ
+place Create = 0
+place Delete = 1
+place Allow = 2
+place AllowSet = 3
+place Withdraw = 4
+place Drop = 5
+place Lend = 6
+place Recall = 7
+place Shift = 8
+place Sweep = 9
+place Check = 10
+
+-- its word
+abbrev pub word_of : Verb → List ℕ
+word_of Create = bytes "create"
+word_of Delete = bytes "delete"
+word_of Allow = bytes "allow"
+word_of AllowSet = bytes "allowset"
+word_of Withdraw = bytes "withdraw"
+word_of Drop = bytes "drop"
+word_of Lend = bytes "lend"
+word_of Recall = bytes "recall"
+word_of Shift = bytes "shift"
+word_of Sweep = bytes "sweep"
+word_of Check = bytes "check"
+
+-- its keys
+abbrev pub keys_of : Verb → List Key
+keys_of Create = By ∷ On ∷ []
+keys_of Delete = By ∷ On ∷ []
+keys_of Allow = By ∷ To ∷ On ∷ Right ∷ Depth ∷ []
+keys_of AllowSet = By ∷ Set ∷ On ∷ Right ∷ Depth ∷ []
+keys_of Withdraw = By ∷ To ∷ On ∷ Right ∷ []
+keys_of Drop = By ∷ To ∷ On ∷ Right ∷ Depth ∷ []
+keys_of Lend = By ∷ To ∷ On ∷ Right ∷ Depth ∷ Last ∷ []
+keys_of Recall = By ∷ To ∷ On ∷ Right ∷ Depth ∷ Last ∷ []
+keys_of Shift = By ∷ Now ∷ []
+keys_of Sweep = By ∷ []
+keys_of Check = Who ∷ On ∷ Right ∷ []
 
 -- ---- values in an array
 -- the most values that a line has
 abbrev pub most : ℕ
 most = 6
 
--- room for the values of any verb, and none is there yet
-unfoldable pub Blank : List ℕ → Type 0
-Blank vs = (length vs ≡ most) × ((i : ℕ) → get_or vs i 0 ≡ 0)
-
--- r says whether values were read, and out holds them, and 0 after them
-unfoldable pub FilledAs : Read → Bool → List ℕ → Type 0
-FilledAs (Got vs) r out = (r ≡ true) × ((i : ℕ) → get_or out i 0 ≡ get_or vs i 0)
-FilledAs Not r out = r ≡ false
+-- r has the values that were read, and 0 after them
+unfoldable pub ReadAs : Read → Option (List ℕ) → Type 0
+ReadAs (Got vs) (Some out) = (i : ℕ) → get_or out i 0 ≡ get_or vs i 0
+ReadAs (Got vs) None = ⊥
+ReadAs Not (Some out) = ⊥
+ReadAs Not None = Unit
 
 -- no verb but v has the line s
 unfoldable pub Only : List ℕ → ℕ → Type 0

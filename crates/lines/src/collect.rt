@@ -1,5 +1,6 @@
 // Lines put together from chunks of input. The caller lends a line buffer; 128 bytes are enough, since a longer line is malformed.
-ghost use Rattle.std.specs.Prelude.{◌≡◌, ◌≤◌, length};
+ghost use Rattle.std.specs.Prelude.{◌≡◌, nat_eq, ◌≤◌, length};
+ghost use Rattle.std.specs.List.{position};
 ghost use Rattle.lines.specs.Collect.{before_newline, nothing_held, begun, past, after_line, fed_of, buffer_after, held_line};
 
 use crate::Parsed;
@@ -26,40 +27,29 @@ impl Partial {
     pub fn is_begun(self) -> bool
         ensures { result ≡ begun self }
     {
-        if self.over {
-            return true;
-        }
-        0 < self.len
+        self.over || 0 < self.len
     }
 }
 
-// The place of the first byte 10, or the end.
+// The place of the first byte 10.
+fn newline(s: &[u8]) -> Option<usize>
+    ensures { result ≡ position (λ b. nat_eq b 10) s.now }
+{
+    s.iter().position(|b| *b == b'\n')
+}
+
+// The same, or the end.
 fn line_end(s: &[u8]) -> usize
     ensures { (result ≡ length (before_newline s.now)) × (result ≤ length s.now) }
 {
-    let mut i = 0;
-    while i < s.len() {
-        if s[i] == 10 {
-            return i;
-        }
-        i += 1;
-    }
-    i
+    newline(s).unwrap_or(s.len())
 }
 
 // Whether n more bytes go past a buffer of cap bytes.
 fn is_past(p: Partial, cap: usize, n: usize) -> bool
     ensures { result ≡ past cap p n }
 {
-    let over = p.over;
-    let len = p.len;
-    if over {
-        return true;
-    }
-    if cap < len {
-        return true;
-    }
-    cap - len < n
+    p.over || cap < p.len || cap - p.len < n
 }
 
 // The place after a line that ends at n, where its byte 10 stands, or which is the end of size bytes.
@@ -67,10 +57,7 @@ fn after_line(n: usize, size: usize) -> usize
     requires { n ≤ size }
     ensures { result ≡ after_line n size }
 {
-    if n < size {
-        return n + 1;
-    }
-    n
+    if n < size { n + 1 } else { n }
 }
 
 // Whether the line ended, how many bytes were taken, and what is held.

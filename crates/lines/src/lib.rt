@@ -7,241 +7,235 @@ use model::Command;
 pub mod collect;
 pub mod show;
 
-ghost use Rattle.std.specs.Prelude.{◌≡◌, true, ◌-◌, ◌≤◌, length, drop, get_or};
+ghost use Rattle.std.specs.Prelude.{◌≡◌, true, not, map, ◌%◌, ◌≤◌, length, get_or};
+ghost use Rattle.std.specs.List.{position};
+ghost use Rattle.std.specs.Char.{is_ascii_digit};
+ghost use Rattle.bits.specs.Sets.{all};
 ghost use Rattle.model.specs.declared.Command.TheVariants.{Allow, AllowSet, Withdraw, Drop, Lend, Recall};
 ghost use Rattle.lines.specs.declared.Parsed.TheVariants.{Run, Ask};
-ghost use Rattle.lines.specs.Bytes.{bytes};
-ghost use Rattle.lines.specs.Grammar.{number, set, form_of, meaning, within};
-ghost use Rattle.lines.specs.Line.{starts_with, digit, number_at, hexadecimal, hex_value, set_of, set_at, values_by, parse_line};
-ghost use Rattle.lines.specs.Reader.{Digits, field_at, key_at, parts_of, most, Blank, FilledAs, Only};
+ghost use Rattle.lines.specs.Grammar.{form_of, meaning, within};
+ghost use Rattle.lines.specs.Line.{digit, digits, value_of, number_at, set_of, set_at, values_by, parse_line};
+ghost use Rattle.lines.specs.Reader.{after_at, hex_value_of, key_text, key_at, place, word_of, keys_of, parts_of, ReadAs, Only};
 
-// A number or a set, and the place after it, or none.
-#[derive(Clone, Copy)]
-enum Number {
-    Value(u64, usize),
-    Bad,
+// The place after the bytes of w, where they stand at a place of s.
+fn after(s: &[u8], at: usize, w: &[u8]) -> Option<usize>
+    ensures { result ≡ after_at w.now s.now at }
+{
+    s.get(at..).unwrap_or(&[]).strip_prefix(w)?;
+    Some(at + w.len())
 }
 
-// Whether the bytes of w stand in s at a place.
-fn starts(s: &[u8], at: usize, w: &[u8]) -> bool
-    ensures { result ≡ starts_with w.now (drop at s.now) }
+// The place of the first byte that is no decimal digit.
+fn digits_end(s: &[u8]) -> Option<usize>
+    ensures { result ≡ position (λ b. not (is_ascii_digit b)) s.now }
 {
-    let mut i = at;
-    let mut j = 0;
-    while j < w.len() {
-        if s.len() <= i {
-            return false;
-        }
-        if s[i] != w[j] {
-            return false;
-        }
-        i += 1;
-        j += 1;
+    s.iter().position(|b| !b.is_ascii_digit())
+}
+
+// The decimal digits that s begins with.
+fn digits(s: &[u8]) -> &[u8]
+    ensures { result.now ≡ digits s.now }
+{
+    let n = digits_end(s).unwrap_or(s.len());
+    &s[..n]
+}
+
+// The value of at most 10 decimal digits.
+fn value_of(ds: &[u8]) -> u64
+    requires few { length ds.now ≤ 10 }
+    requires decimal { all digit ds.now ≡ true }
+    ensures { result ≡ value_of ds.now }
+{
+    let mut v = 0;
+    for b in ds {
+        v = v * 10 + u64::from(*b - b'0');
     }
-    true
+    v
 }
 
-fn is_digit(b: u8) -> bool
-    ensures { result ≡ digit b }
-{
-    if 48 <= b {
-        return b <= 57;
-    }
-    false
-}
-
-fn digit_value(b: u8) -> u64
-    requires { (48 ≤ b) × (b ≤ 57) }
-    ensures { (result ≡ b - 48) × (result ≤ 9) }
-{
-    (b - 48) as u64
-}
-
-// The answer where the digits from at on end at i and have the value v.
-fn finish(s: &[u8], at: usize, i: usize, v: u64) -> Number
-    requires { Digits s.now at i v }
+// The number that stands in s at a place, and the place after it.
+fn read_number(s: &[u8], at: usize) -> Option<(u64, usize)>
     ensures { result ≡ number_at s.now at }
 {
-    let k = i - at;
-    if k == 0 {
-        return Number::Bad;
+    let ds = digits(s.get(at..)?);
+    if ds.is_empty() || ds.len() > 10 {
+        return None;
     }
-    if 10 < k {
-        return Number::Bad;
+    if ds.len() > 1 && ds[0] == b'0' {
+        return None;
     }
-    if k != 1 {
-        if s[at] == 48 {
-            return Number::Bad;
-        }
-    }
-    Number::Value(v, i)
+    let v = value_of(ds);
+    (v <= u64::from(u32::MAX)).then_some((v, at + ds.len()))
 }
 
-fn read_digits(s: &[u8], at: usize) -> Number
-    requires { at ≤ length s.now }
-    ensures { result ≡ number_at s.now at }
+// The value of a lowercase hexadecimal digit.
+fn hex_value(b: u8) -> Option<u64>
+    ensures { result ≡ hex_value_of b }
 {
-    let mut v: u64 = 0;
-    let mut i = at;
-    while i < s.len() {
-        let b = s[i];
-        if !is_digit(b) {
-            return finish(s, at, i, v);
-        }
-        v = v * 10 + digit_value(b);
-        if 4294967295 < v {
-            return Number::Bad;
-        }
-        i += 1;
+    match b {
+        b'0'..=b'9' => Some(u64::from(b - b'0')),
+        b'a'..=b'f' => Some(u64::from(b - b'a') + 10),
+        _ => None,
     }
-    finish(s, at, i, v)
-}
-
-// The number that stands in s at a place.
-fn read_number(s: &[u8], at: usize) -> Number
-    ensures { result ≡ number_at s.now at }
-{
-    if s.len() < at {
-        return Number::Bad;
-    }
-    read_digits(s, at)
-}
-
-// Whether a byte is a lowercase hexadecimal digit.
-fn is_hex(b: u8) -> bool
-    ensures { result ≡ hexadecimal b }
-{
-    if is_digit(b) {
-        return true;
-    }
-    if 97 <= b {
-        return b <= 102;
-    }
-    false
-}
-
-fn hex_value(b: u8) -> u64
-    requires { hexadecimal b ≡ true }
-    ensures { (result ≡ hex_value b) × (result ≤ 15) }
-{
-    if is_digit(b) {
-        return digit_value(b);
-    }
-    (b - 87) as u64
 }
 
 // The set that 16 bytes are, where next is the place after them.
-fn set_of(ds: &[u8], next: usize) -> Number
+fn set_of(ds: &[u8], next: usize) -> Option<(u64, usize)>
     requires { length ds.now ≡ 16 }
     ensures { result ≡ set_of ds.now next }
 {
-    let mut v: u64 = 0;
-    let mut i = 0;
-    while i < ds.len() {
-        let b = ds[i];
-        if !is_hex(b) {
-            return Number::Bad;
-        }
-        v = v * 16 + hex_value(b);
-        i += 1;
+    let mut v = 0;
+    for b in ds {
+        v = v * 16 + hex_value(*b)?;
     }
-    Number::Value(v, next)
+    Some((v, next))
 }
 
-// The set that stands in s at a place.
-fn read_set(s: &[u8], at: usize) -> Number
+// The set that stands in s at a place, and the place after it.
+fn read_set(s: &[u8], at: usize) -> Option<(u64, usize)>
     ensures { result ≡ set_at s.now at }
 {
-    if s.len() < 16 {
-        return Number::Bad;
-    }
-    if s.len() - 16 < at {
-        return Number::Bad;
-    }
-    let next = at + 16;
-    set_of(&s[at..next], next)
+    let ds = s.get(at..)?.get(..16)?;
+    set_of(ds, at + 16)
 }
 
-// The bytes of key at a place, and the number after them.
-fn field(s: &[u8], at: usize, key: &[u8]) -> Number
-    ensures { result ≡ field_at number key.now s.now at }
-{
-    if starts(s, at, key) {
-        return read_number(s, at + key.len());
-    }
-    Number::Bad
+// The keys of the fields after the first, in which a line says what it does.
+#[derive(Clone, Copy)]
+enum Key {
+    By,
+    Who,
+    To,
+    Set,
+    On,
+    Right,
+    Last,
+    Now,
+    Depth,
 }
 
-// The bytes of key at a place, and the set after them.
-fn set_field(s: &[u8], at: usize, key: &[u8]) -> Number
-    ensures { result ≡ field_at set key.now s.now at }
-{
-    if starts(s, at, key) {
-        return read_set(s, at + key.len());
+impl Key {
+    fn text(self) -> &'static [u8]
+        ensures { result.now ≡ key_text self }
+    {
+        match self {
+            Key::By => b" by=",
+            Key::Who => b" who=",
+            Key::To => b" to=",
+            Key::Set => b" set=",
+            Key::On => b" on=",
+            Key::Right => b" right=",
+            Key::Last => b" last=",
+            Key::Now => b" now=",
+            Key::Depth => b" depth=",
+        }
     }
-    Number::Bad
+
+    // The value of the key at a place of s, and the place after it.
+    fn read(self, s: &[u8], at: usize) -> Option<(u64, usize)>
+        ensures { result ≡ key_at self s.now at }
+    {
+        let value = after(s, at, self.text())?;
+        match self {
+            Key::Set => read_set(s, value),
+            _ => read_number(s, value),
+        }
+    }
 }
 
-// The value of a key at a place, by the key's letter.
-fn key_value(s: &[u8], at: usize, key: u8) -> Number
-    ensures { result ≡ key_at key s.now at }
-{
-    match key {
-        b'b' => field(s, at, b" by="),
-        b'w' => field(s, at, b" who="),
-        b't' => field(s, at, b" to="),
-        b's' => set_field(s, at, b" set="),
-        b'o' => field(s, at, b" on="),
-        b'r' => field(s, at, b" right="),
-        b'l' => field(s, at, b" last="),
-        b'n' => field(s, at, b" now="),
-        _ => field(s, at, b" depth="),
+// What a line does, in the order of the grammar's list.
+#[derive(Clone, Copy)]
+enum Verb {
+    Create,
+    Delete,
+    Allow,
+    AllowSet,
+    Withdraw,
+    Drop,
+    Lend,
+    Recall,
+    Shift,
+    Sweep,
+    Check,
+}
+
+impl Verb {
+    // The only verb that can have this line: bytes 5 and 9 tell the verbs apart.
+    fn of(s: &[u8]) -> Verb
+        ensures { Only s.now (place result) }
+    {
+        let sum = u32::from(byte(s, 5)) + u32::from(byte(s, 9));
+        match sum % 64 {
+            12 => Verb::Delete,
+            14 => Verb::Allow,
+            17 => Verb::AllowSet,
+            21 => Verb::Withdraw,
+            40 => Verb::Drop,
+            39 => Verb::Lend,
+            3 => Verb::Recall,
+            11 => Verb::Shift,
+            7 => Verb::Sweep,
+            28 => Verb::Check,
+            _ => Verb::Create,
+        }
+    }
+
+    fn word(self) -> &'static [u8]
+        ensures { result.now ≡ word_of self }
+    {
+        match self {
+            Verb::Create => b"create",
+            Verb::Delete => b"delete",
+            Verb::Allow => b"allow",
+            Verb::AllowSet => b"allowset",
+            Verb::Withdraw => b"withdraw",
+            Verb::Drop => b"drop",
+            Verb::Lend => b"lend",
+            Verb::Recall => b"recall",
+            Verb::Shift => b"shift",
+            Verb::Sweep => b"sweep",
+            Verb::Check => b"check",
+        }
+    }
+
+    // The keys of its fields, in their order.
+    fn keys(self) -> &'static [Key]
+        ensures { result.now ≡ keys_of self }
+    {
+        match self {
+            Verb::Create | Verb::Delete => &[Key::By, Key::On],
+            Verb::Allow | Verb::Drop => &[Key::By, Key::To, Key::On, Key::Right, Key::Depth],
+            Verb::AllowSet => &[Key::By, Key::Set, Key::On, Key::Right, Key::Depth],
+            Verb::Withdraw => &[Key::By, Key::To, Key::On, Key::Right],
+            Verb::Lend | Verb::Recall => &[
+                Key::By,
+                Key::To,
+                Key::On,
+                Key::Right,
+                Key::Depth,
+                Key::Last,
+            ],
+            Verb::Shift => &[Key::By, Key::Now],
+            Verb::Sweep => &[Key::By],
+            Verb::Check => &[Key::Who, Key::On, Key::Right],
+        }
     }
 }
 
 // The most values that a line has.
 const MOST: usize = 6;
 
-// Whether a word and these keys, and nothing after them, come after the line's `do=`; and the values of the keys.
-fn fill(values: &mut [u64; MOST], s: &[u8], word: &[u8], keys: &[u8]) -> bool
-    requires { (length keys.now ≤ most) × Blank values.old × (starts_with (bytes "do=") s.now ≡ true) }
-    ensures { FilledAs (values_by (parts_of word.now keys.now) s.now) result values.new }
+// The values of a line of a verb in their order, and 0 after them.
+fn values_of(s: &[u8], verb: Verb) -> Option<[u64; MOST]>
+    ensures { ReadAs (values_by (form_of (place verb)).pattern s.now) result }
 {
-    if !starts(s, 3, word) {
-        return false;
+    let mut at = after(s, after(s, 0, b"do=")?, verb.word())?;
+    let mut values = [0; MOST];
+    for (i, key) in verb.keys().iter().enumerate() {
+        let (v, next) = key.read(s, at)?;
+        values[i] = v;
+        at = next;
     }
-    let mut p = 3 + word.len();
-    let mut k = 0;
-    while k < keys.len() {
-        let Number::Value(v, n) = key_value(s, p, keys[k]) else {
-            return false;
-        };
-        values[k] = v;
-        p = n;
-        k += 1;
-    }
-    p == s.len()
-}
-
-// The values of a line by the word and the keys of a verb. The verbs are numbered as the grammar lists them.
-fn read_by(values: &mut [u64; MOST], s: &[u8], verb: usize) -> bool
-    requires { Blank values.old × (starts_with (bytes "do=") s.now ≡ true) }
-    ensures { FilledAs (values_by (form_of verb).pattern s.now) result values.new }
-{
-    match verb {
-        0 => fill(values, s, b"create", b"bo"),
-        1 => fill(values, s, b"delete", b"bo"),
-        2 => fill(values, s, b"allow", b"btord"),
-        3 => fill(values, s, b"allowset", b"bsord"),
-        4 => fill(values, s, b"withdraw", b"btor"),
-        5 => fill(values, s, b"drop", b"btord"),
-        6 => fill(values, s, b"lend", b"btordl"),
-        7 => fill(values, s, b"recall", b"btordl"),
-        8 => fill(values, s, b"shift", b"bn"),
-        9 => fill(values, s, b"sweep", b"b"),
-        10 => fill(values, s, b"check", b"wor"),
-        _ => false,
-    }
+    (at == s.len()).then_some(values)
 }
 
 // What a line asks for.
@@ -327,70 +321,48 @@ fn ask(who: u32, on: u32, right: u32) -> Parsed
     Parsed::Ask { who, on, right }
 }
 
-// 2 ^ 32, which each number of a line is below: its remainder is the number itself.
-const WORD: u64 = 4294967296;
-
-// What the line of a verb with these values asks for.
-fn meaning_of(verb: usize, values: &[u64; MOST]) -> Parsed
-    requires { within (form_of verb).pattern values.now ≡ true }
-    ensures { result ≡ meaning (form_of verb) values.now }
+// The lowest 32 bits of each: of a number, the number itself.
+fn lowest(values: [u64; MOST]) -> [u32; MOST]
+    ensures { result ≡ map (λ v. v % 4294967296) values }
 {
-    let a = (values[0] % WORD) as u32;
-    let b = (values[1] % WORD) as u32;
-    let c = (values[2] % WORD) as u32;
-    let d = (values[3] % WORD) as u32;
-    let e = (values[4] % WORD) as u32;
-    let f = (values[5] % WORD) as u32;
-    match verb {
-        0 => Parsed::Run(Command::Create { by: a, on: b }),
-        1 => Parsed::Run(Command::Delete { by: a, on: b }),
-        2 => allow(a, b, c, d, e),
-        3 => allow_set(a, values[1], c, d, e),
-        4 => withdraw(a, b, c, d),
-        5 => drop_depth(a, b, c, d, e),
-        6 => lend(a, b, c, d, e, f),
-        7 => recall(a, b, c, d, e, f),
-        8 => Parsed::Run(Command::Shift { by: a, now: b }),
-        9 => Parsed::Run(Command::Sweep { by: a }),
-        10 => ask(a, b, c),
-        _ => Parsed::Malformed,
-    }
+    values.map(|v| (v % 4294967296) as u32)
 }
 
-// A verb for each number that two bytes of its line give: @ is the first of the grammar's list, a the next.
-const VERBS: [u8; 64] = *b"@@@g@@@i@@@ha@b@@c@@@d@@@@@@j@@@@@@@@@@fe@@@@@@@@@@@@@@@@@@@@@@@";
+// What the line of a verb with these values asks for.
+fn meaning_of(verb: Verb, values: [u64; MOST]) -> Parsed
+    requires { within (form_of (place verb)).pattern values ≡ true }
+    ensures { result ≡ meaning (form_of (place verb)) values }
+{
+    let [a, b, c, d, e, f] = lowest(values);
+    match verb {
+        Verb::Create => Parsed::Run(Command::Create { by: a, on: b }),
+        Verb::Delete => Parsed::Run(Command::Delete { by: a, on: b }),
+        Verb::Allow => allow(a, b, c, d, e),
+        Verb::AllowSet => allow_set(a, values[1], c, d, e),
+        Verb::Withdraw => withdraw(a, b, c, d),
+        Verb::Drop => drop_depth(a, b, c, d, e),
+        Verb::Lend => lend(a, b, c, d, e, f),
+        Verb::Recall => recall(a, b, c, d, e, f),
+        Verb::Shift => Parsed::Run(Command::Shift { by: a, now: b }),
+        Verb::Sweep => Parsed::Run(Command::Sweep { by: a }),
+        Verb::Check => ask(a, b, c),
+    }
+}
 
 // The byte at a place, and 0 past the end.
 fn byte(s: &[u8], at: usize) -> u8
     ensures { result ≡ get_or s.now at 0 }
 {
-    if at < s.len() {
-        return s[at];
-    }
-    0
-}
-
-// The only verb that can have this line: bytes 5 and 9 tell the verbs apart.
-fn verb_at(s: &[u8]) -> usize
-    ensures { Only s.now result }
-{
-    let a = byte(s, 5) as usize;
-    let b = byte(s, 9) as usize;
-    let h = (a + b) % 64;
-    (VERBS[h] % 32) as usize
+    s.get(at).copied().unwrap_or(0)
 }
 
 // What a line asks for; the line comes without its byte 10.
 pub fn parse(line: &[u8]) -> Parsed
     ensures { result ≡ parse_line line.now }
 {
-    if !starts(line, 0, b"do=") {
-        return Parsed::Malformed;
+    let verb = Verb::of(line);
+    match values_of(line, verb) {
+        Some(values) => meaning_of(verb, values),
+        None => Parsed::Malformed,
     }
-    let verb = verb_at(line);
-    let mut values = [0u64; MOST];
-    if read_by(&mut values, line, verb) {
-        return meaning_of(verb, &values);
-    }
-    Parsed::Malformed
 }

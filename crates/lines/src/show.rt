@@ -8,12 +8,9 @@ pub fn put_bytes(buf: &mut [u8], at: usize, part: &[u8]) -> usize
     requires { at + length part.now ≤ length buf.old }
     ensures { Wrote buf.old at part.now result buf.new }
 {
-    let mut j = 0;
-    while j < part.len() {
-        buf[at + j] = part[j];
-        j += 1;
-    }
-    at + j
+    let end = at + part.len();
+    buf[at..end].copy_from_slice(part);
+    end
 }
 
 // The decimal digits of n.
@@ -22,10 +19,10 @@ pub fn put_number(buf: &mut [u8], at: usize, n: u64) -> usize
     ensures { Wrote buf.old at (shown n) result buf.new }
 {
     if n < 10 {
-        buf[at] = 48 + n as u8;
+        buf[at] = b'0' + n as u8;
         return at + 1;
     }
     let p = put_number(buf, at, n / 10);
-    buf[p] = 48 + (n % 10) as u8;
+    buf[p] = b'0' + (n % 10) as u8;
     p + 1
 }

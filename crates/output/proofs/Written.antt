@@ -2,14 +2,14 @@
 use mathlib.Core.Path.{◌≡◌, refl, sym, ap, ap₂, ◌∙◌, subst}
 use mathlib.Core.Bool.{true, false}
 use mathlib.Core.List.{List, [], ◌∷◌, ◌++◌, append_assoc, append-nil}
-use Prim.Native.Nat.{ℕ, suc, ◌+◌, ◌-◌, ◌≤◌, ◌<◌, min}
+use Prim.Native.Nat.{ℕ, suc, ◌+◌, ◌≤◌, ◌<◌, min}
 use native.Mathlib.Omega.{arith}
 use native.Mathlib.Numerals.{add-one}
 use native.Mathlib.Nat.{add-zero}
-use borrow.Author.Tests.{leb-true, leb-false, le-leb, lt-leb}
+use borrow.Author.Tests.{leb-true, leb-false}
 use lib.Dec.{leb}
 use Rattle.bits.proofs.Sets.{by_cases}
-use lib.ListN.{length, take, drop, get_or, set, length-append}
+use lib.ListN.{length, take, get_or, set, length-append}
 use lib.Seq.{sets, take-suc, take_all}
 use Rattle.output.specs.declared.reply.Said.{Said}
 use Rattle.output.specs.declared.reply.Reply.{Reply}
@@ -59,10 +59,9 @@ unfolding persons
 persons-none [] e = refl
 persons-none (p ∷ ps) e = absurd (omega arith)
 
-pub persons_some : (s : List ℕ) → (length s ≡ 0 → ⊥) → persons s ≡ shown (get_or s 0 0) ++ more_persons (drop 1 s)
+pub persons_some : {s ps : List ℕ} {p : ℕ} → s ≡ p ∷ ps → persons s ≡ shown p ++ more_persons ps
 unfolding persons
-persons_some [] n = absurd (n refl)
-persons_some (p ∷ ps) n = refl
+persons_some e = rw e
 
 -- as many persons as the buffer has
 pub take_min : (k n : ℕ) (s : List ℕ) → length s ≡ n → take (min k n) s ≡ take k s
@@ -92,11 +91,3 @@ module _ (b : List ℕ) (at : ℕ) (xs : List ℕ) where
 
   pub puts_wrote : {b' : List ℕ} {r : ℕ} → room (length b) at ≡ true → Wrote b at xs r b' → r ≤ at + 128 → Puts b at xs r b'
   puts_wrote e w h = record { place = rw e w.place; buffer = rw e w.buffer; short = h }
-
-pub room-none : (size at : ℕ) → size < at → false ≡ room size at
-room-none size at h = sym (lt-leb (at + 128) size (omega arith))
-
-pub room-left : (size at : ℕ) → at ≤ size → leb 128 (size - at) ≡ room size at
-room-left size at h =
-    by_cases (leb 128 (size - at)) (λ q. q ∙ sym (le-leb (at + 128) size (omega (arith, leb-true 128 (size - at) q))))
-    (λ q. q ∙ sym (lt-leb (at + 128) size (omega (arith, leb-false 128 (size - at) q))))

@@ -20,7 +20,7 @@ fn put_said(buf: &mut [u8], at: usize, said: Said) -> usize
     ensures { Wrote buf.old at (said_text said) result buf.new × (result ≤ at + 10) }
 {
     match said {
-        Said::Number(n) => put_number(buf, at, n as u64),
+        Said::Number(n) => put_number(buf, at, u64::from(n)),
         Said::Yes => put_bytes(buf, at, b"yes"),
         Said::No => put_bytes(buf, at, b"no"),
         Said::Passed => put_bytes(buf, at, b"-"),
@@ -51,7 +51,7 @@ fn put_person(buf: &mut [u8], at: usize, person: u8) -> usize
     requires { at + 3 ≤ length buf.old }
     ensures { Wrote buf.old at (shown person) result buf.new × (result ≤ at + 3) }
 {
-    put_number(buf, at, person as u64)
+    put_number(buf, at, u64::from(person))
 }
 
 // A person after the first.
@@ -68,10 +68,8 @@ fn put_more(buf: &mut [u8], at: usize, via: &[u8]) -> usize
     ensures { Wrote buf.old at (more_persons via.now) result buf.new × (result ≤ at + 28) }
 {
     let mut p = at;
-    let mut i = 0;
-    while i < via.len() {
-        p = put_next(buf, p, via[i]);
-        i += 1;
+    for person in via {
+        p = put_next(buf, p, *person);
     }
     p
 }
@@ -80,21 +78,18 @@ fn put_persons(buf: &mut [u8], at: usize, via: &[u8]) -> usize
     requires { (at + 31 ≤ length buf.old) × (length via.now ≤ 8) }
     ensures { Wrote buf.old at (persons via.now) result buf.new × (result ≤ at + 31) }
 {
-    if via.len() == 0 {
+    let Some((first, more)) = via.split_first() else {
         return at;
-    }
-    let p = put_person(buf, at, via[0]);
-    put_more(buf, p, &via[1..])
+    };
+    let p = put_person(buf, at, *first);
+    put_more(buf, p, more)
 }
 
 // At most the eight persons of a chain buffer.
 fn in_buffer(persons: u32) -> usize
     ensures { (result ≡ min persons 8) × (result ≤ 8) }
 {
-    if persons < 8 {
-        return persons as usize;
-    }
-    8
+    persons.min(8) as usize
 }
 
 fn put_chain(buf: &mut [u8], at: usize, depth: u32, persons: u32, via: [u8; 8]) -> usize
@@ -159,10 +154,7 @@ fn write_last(buf: &mut [u8], at: usize, n: u64) -> usize
 pub fn has_room(size: usize, at: usize) -> bool
     ensures { result ≡ room size at }
 {
-    if size < at {
-        return false;
-    }
-    128 <= size - at
+    at <= size && 128 <= size - at
 }
 
 // Writes line n from a place on and gives the place after it; where there is no room, nothing is written and the place stays.

@@ -1,79 +1,71 @@
 -- A chunk taken part after part is taken as one, since each part ends between two pieces; and a run's parts come one after another.
 use mathlib.Core.Path.{◌≡◌, refl, sym, ap, ap₂, ◌∙◌, subst}
 use mathlib.Core.List.{List, [], ◌∷◌, ◌++◌, append_assoc, append-nil}
-use Prim.Native.Nat.{ℕ, ◌+◌, ◌-◌, ◌≤◌}
+use Prim.Native.Nat.{ℕ, ◌+◌}
 use native.Mathlib.Omega.{arith}
-use lib.ListN.{length, take, drop, length-drop, drop_of_length-le}
-use lib.Seq.{take_all, drop-drop}
+use lib.ListN.{length, take, drop, length-drop}
 use Rattle.agreement.specs.Agreement.{Units, fresh_units}
 use Rattle.lines.specs.declared.collect.Partial.{Partial}
 use Rattle.lines.specs.Collect.{Line, lines_from, lines_of, nothing_held}
 use Rattle.lines.specs.Chunks.{pieces}
 use Rattle.stream.specs.declared.Progress.{Progress}
 use Rattle.stream.specs.Session.{Session, session, fresh_session, session_after_all, taken_of, bytes_of, Consumes}
-use Rattle.stream.proofs.Session.{after-append, bytes-append, cut, consumes_part, consumes_lines}
-use Rattle.program.specs.declared.Turn.{Turn}
-use Rattle.program.specs.declared.Turn.TheVariants.{Going, Ended, Failed}
-use Rattle.program.specs.Loop.{Holds, StoppedIn, Answered, Came, ReadOnce, Ran}
+use Rattle.stream.proofs.Session.{nothing, after-append, bytes-append, cut, consumes_part, consumes_lines}
+use Rattle.program.specs.declared.Failed.{Failed}
+use Rattle.std.specs.Prelude.{Some, None, Result, Ok, Err, IsErr}
+use mathlib.Core.Bool.{false≢true}
+use Rattle.program.specs.Loop.{StoppedIn, Answered, Came, ReadOnce, Ran}
 
 -- ---- a chunk
--- how far the loop over a chunk is: the pieces done, which are its first i bytes
-pub record Through (s₀ s : Session) (chunk : List ℕ) (i : ℕ) : Type 0 where
+-- how far the loop over a chunk is: the pieces done, which are its first bytes, before the rest
+pub record Through (s₀ s : Session) (chunk rest : List ℕ) : Type 0 where
   pub done : List Line
-  pub bytes : i ≡ bytes_of done
-  pub part : i ≤ length chunk
-  pub lines : lines_of chunk ≡ done ++ lines_of (drop i chunk)
+  pub part : bytes_of done + length rest ≡ length chunk
+  pub lines : lines_of chunk ≡ done ++ lines_of rest
   pub session : s ≡ session_after_all s₀ done
 
-pub through_start : (s : Session) (chunk : List ℕ) → Through s s chunk 0
+pub through_start : (s : Session) (chunk : List ℕ) → Through s s chunk chunk
 unfolding bytes_of session_after_all
-through_start s chunk = record { done = []; bytes = refl; part = omega arith; lines = refl; session = refl }
+through_start s chunk = record { done = []; part = omega arith; lines = refl; session = refl }
 
-module _ {s₀ s : Session} {chunk : List ℕ} {i : ℕ} (t : Through s₀ s chunk i) where
-  pub through_next : {s' : Session} {out out' : List ℕ} {used written : ℕ}
-      → Consumes s (take (length chunk - i) (drop i chunk)) out used written s' out'
-      → Through s₀ s' chunk (i + used)
+module _ {s₀ s : Session} {chunk rest : List ℕ} (t : Through s₀ s chunk rest) where
+  pub through_next : {s' : Session} {out out' : List ℕ} {used written : ℕ} → Consumes s rest out used written s' out'
+      → Through s₀ s' chunk (drop used rest)
   through_next {s'} {out} {out'} {used} {written} c =
-      let d : List ℕ = drop i chunk in
-      let l = length-drop i chunk in
-      let whole : take (length chunk - i) d ≡ d = take_all (length chunk - i) d (omega arith) in
-      let w : Consumes s d out used written s' out' = rw whole at c in
-      let xs : List Line = taken_of (length out) s d in record {
+      let xs : List Line = taken_of (length out) s rest in record {
         done = t.done ++ xs;
-        bytes = omega (arith, t.bytes, w.part, bytes-append t.done xs);
-        part = omega (arith, consumes_part w, t.part);
-        lines = t.lines ∙ ap (λ (ys : List Line). t.done ++ ys) (consumes_lines w)
-            ∙ sym (append_assoc t.done xs (lines_of (drop used d)))
-            ∙ ap (λ (k : List ℕ). (t.done ++ xs) ++ lines_of k) (drop-drop used i chunk);
-        session = w.session ∙ ap (λ (q : Session). session_after_all q xs) t.session ∙ sym (after-append s₀ t.done xs);
+        part = omega (arith, t.part, c.part, consumes_part c, bytes-append t.done xs, length-drop used rest);
+        lines = t.lines ∙ ap (λ (ys : List Line). t.done ++ ys) (consumes_lines c)
+            ∙ sym (append_assoc t.done xs (lines_of (drop used rest)));
+        session = c.session ∙ ap (λ (q : Session). session_after_all q xs) t.session ∙ sym (after-append s₀ t.done xs);
       }
 
   -- all of it
-  pub through_end : length chunk ≤ i → s ≡ session_after_all s₀ (lines_of chunk)
+  pub through_end : length rest ≡ 0 → s ≡ session_after_all s₀ (lines_of chunk)
   unfolding lines_from
   through_end h =
       t.session ∙ ap (session_after_all s₀) (sym (t.lines
-      ∙ ap (λ (l : List ℕ). t.done ++ lines_of l) (drop_of_length-le chunk h) ∙ append-nil t.done))
+      ∙ ap (λ (l : List ℕ). t.done ++ lines_of l) (nothing rest h) ∙ append-nil t.done))
 
 -- the first part of it
-pub through_stop : {s₀ : Session} {chunk : List ℕ} {i n : ℕ} {u : Units} {buf : List ℕ} {p : Partial}
-    → Through s₀ (session n u buf p) chunk i → StoppedIn s₀ chunk u buf
-through_stop {s₀} {chunk} {i} {n} {u} {buf} {p} t =
-    let k = cut chunk t.done (lines_of (drop i chunk)) t.lines in
-    let e : lines_of (take i chunk) ≡ t.done = ap (λ (m : ℕ). lines_of (take m chunk)) t.bytes ∙ k.before in
-    let q : session n u buf p ≡ session_after_all s₀ (lines_of (take i chunk)) = t.session ∙ ap (session_after_all s₀) (sym e) in record {
+pub through_stop : {s₀ : Session} {chunk rest : List ℕ} {n : ℕ} {u : Units} {buf : List ℕ} {p : Partial}
+    → Through s₀ (session n u buf p) chunk rest → StoppedIn s₀ chunk u buf
+through_stop {s₀} {chunk} {rest} {n} {u} {buf} {p} t =
+    let i : ℕ = bytes_of t.done in
+    let k = cut chunk t.done (lines_of rest) t.lines in
+    let q : session n u buf p ≡ session_after_all s₀ (lines_of (take i chunk)) = t.session ∙ ap (session_after_all s₀) (sym k.before) in record {
       used = i;
-      part = t.part;
+      part = omega (arith, t.part);
       left = record { units = ap (λ (z : Session). z.units) q; line = ap (λ (z : Session). z.collector.buffer) q };
     }
 
--- what came of one read
-pub came : (s : Session) (chunk : List ℕ) (u : Units) (buf : List ℕ) (r : Turn) → Answered s chunk u buf r → ReadOnce s u buf r
-came s chunk u buf (Going p) a = record { chunk = chunk; answered = a }
-came s chunk u buf Ended a = absurd a
-came s chunk u buf Failed a = record { chunk = chunk; answered = a }
+-- where a write failed
+pub stopped : {s : Session} {chunk : List ℕ} {u : Units} {buf : List ℕ} (r : Result Progress Failed) → IsErr r → StoppedIn s chunk u buf
+    → Answered s chunk u buf r
+stopped (Ok p) h t = absurd (false≢true h)
+stopped (Err e) h t = t
 
-pub none_came : (n : ℕ) (u : Units) (buf : List ℕ) (p : Partial) → Came (session n u buf p) u buf Failed
+pub none_came : (n : ℕ) (u : Units) (buf : List ℕ) (p : Partial) {e : Failed} → Came (session n u buf p) u buf (Err e)
 none_came n u buf p = record { chunk = []; answered = through_stop (through_start (session n u buf p) []) }
 
 -- ---- a run
@@ -100,20 +92,15 @@ module _ {s₀ s : Session} (t : Reached s₀ s) where
       ∙ ap (session_after_all s₀) (sym (pieces_snoc t.parts c))
 
   -- one part more, the end of input, and a failure
-  pub reached_next : {u : Units} {buf : List ℕ} {r : Turn} (p : Progress) → r ≡ Going p → ReadOnce s u buf r
+  pub reached_next : {u : Units} {buf : List ℕ} (p : Progress) → ReadOnce s u buf (Ok (Some p))
       → Reached s₀ (session p.lines u buf p.held)
-  reached_next {u} {buf} {r} p e h =
-      let c : Came s u buf (Going p) = rw e at h in
-      record { parts = t.parts ++ (c.chunk ∷ []); session = c.answered ∙ after-part c.chunk }
+  reached_next p c = record { parts = t.parts ++ (c.chunk ∷ []); session = c.answered ∙ after-part c.chunk }
 
-  pub reached_ended : {u : Units} {buf : List ℕ} {r : Turn} → r ≡ Ended → ReadOnce s u buf r → Ran s₀ u buf
-  reached_ended {u} {buf} {r} e h =
-      let k : Holds s u buf = rw e at h in
-      record { parts = t.parts; left = rw t.session at k }
+  pub reached_ended : {u : Units} {buf : List ℕ} → ReadOnce s u buf (Ok None) → Ran s₀ u buf
+  reached_ended k = record { parts = t.parts; left = rw t.session at k }
 
-  pub reached_failed : {u : Units} {buf : List ℕ} {r : Turn} → r ≡ Failed → ReadOnce s u buf r → Ran s₀ u buf
-  reached_failed {u} {buf} {r} e h =
-      let c : Came s u buf Failed = rw e at h in
+  pub reached_failed : {u : Units} {buf : List ℕ} {e : Failed} → ReadOnce s u buf (Err e) → Ran s₀ u buf
+  reached_failed c =
       let part : List ℕ = take c.answered.used c.chunk in
       record { parts = t.parts ++ (part ∷ []); left = rw (after-part part) at c.answered.left }
 

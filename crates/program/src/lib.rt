@@ -17,19 +17,15 @@ use rows::Rows;
 use std::io::{Print, Read};
 use stream::Progress;
 
-// Where a run stands after a turn: it goes on, the input ended, or a read or a write failed.
+// A read or a write failed, or no more lines can be counted.
 #[derive(Clone, Copy)]
-enum Turn {
-    Going(Progress),
-    Ended,
-    Failed,
-}
+struct Failed;
 
-// Writes the first n bytes; false where the write failed.
-fn write<O: Print>(output: &O, out: &[u8], n: usize) -> bool
+// Writes the first n bytes.
+fn write<O: Print>(output: &O, out: &[u8], n: usize) -> Result<(), Failed>
     requires { n ≤ length out.now }
 {
-    output.write_all(&out[..n]).is_ok()
+    output.write_all(&out[..n]).map_err(|_| Failed)
 }
 
 // Hands a chunk to the command reader, as much at a time as the output has room for, and writes the output.
@@ -43,30 +39,27 @@ fn answer<O: Print>(
     out: &mut [u8],
     p: Progress,
     chunk: &[u8],
-) -> Turn
+) -> Result<Progress, Failed>
     ensures { Answered
         (session p.lines (units_in list.old row.old grants.old loans.old)
         buf.old p.held) chunk.now
         (units_in list.new row.new grants.new loans.new) buf.new result }
 {
     let mut next = p;
-    let mut i: usize = 0;
-    while i < chunk.len() {
-        let done = stream::consume(list, row, grants, loans, buf, out, next, &chunk[i..]);
-        let written = done.written;
+    let mut rest = chunk;
+    while !rest.is_empty() {
+        let done = stream::consume(list, row, grants, loans, buf, out, next, rest);
         if done.used == 0 {
-            return Turn::Failed;
+            return Err(Failed);
         }
-        if !write(output, out, written) {
-            return Turn::Failed;
-        }
-        i += done.used;
+        write(output, out, done.written)?;
+        rest = &rest[done.used..];
         next = done.next;
     }
-    Turn::Going(next)
+    Ok(next)
 }
 
-// Reads once and answers what came.
+// Reads once and answers what came; none at the end of input.
 fn read_some<I: Read, O: Print>(
     input: &mut I,
     output: &O,
@@ -77,7 +70,7 @@ fn read_some<I: Read, O: Print>(
     buf: &mut [u8; 128],
     out: &mut [u8],
     p: Progress,
-) -> Turn
+) -> Result<Option<Progress>, Failed>
     ensures { ReadOnce
         (session p.lines (units_in list.old row.old grants.old loans.old)
         buf.old p.held)
@@ -85,22 +78,25 @@ fn read_some<I: Read, O: Print>(
 {
     let mut chunk = [0u8; 65536];
     match input.read(&mut chunk) {
-        Err(_) => Turn::Failed,
-        Ok(0) => Turn::Ended,
-        Ok(n) => answer(output, list, row, grants, loans, buf, out, p, &chunk[..n]),
+        Err(_) => Err(Failed),
+        Ok(0) => Ok(None),
+        Ok(n) => {
+            let next = answer(output, list, row, grants, loans, buf, out, p, &chunk[..n])?;
+            Ok(Some(next))
+        }
     }
 }
 
 // The closing lines.
-fn finish<O: Print>(output: &O, out: &mut [u8], p: Progress)
+fn finish<O: Print>(output: &O, out: &mut [u8], p: Progress) -> Result<(), Failed>
     ensures { Finishes out.old p out.new }
 {
     let n = stream::close(out, p);
-    write(output, out, n);
+    write(output, out, n)
 }
 
-// Turn after turn to the end of input. A proved loop ends, and nothing says that the input does, so the turns are counted down from a
-// number that no run uses up.
+// Turn after turn to the end of input. A proved loop ends, and nothing says that the input does, so the turns are counted, to a number
+// that no run uses up.
 fn read_all<I: Read, O: Print>(
     input: &mut I,
     output: &O,
@@ -110,25 +106,19 @@ fn read_all<I: Read, O: Print>(
     loans: &mut [u32; Loans::WORDS],
     buf: &mut [u8; 128],
     out: &mut [u8],
-)
+) -> Result<(), Failed>
     ensures { Ran (session 0 (units_in list.old row.old grants.old loans.old)
         buf.old nothing_held)
         (units_in list.new row.new grants.new loans.new) buf.new }
 {
     let mut next = Progress::start();
-    let mut turns = u64::MAX;
-    while turns > 0 {
-        let t = read_some(input, output, list, row, grants, loans, buf, out, next);
-        match t {
-            Turn::Going(p) => next = p,
-            Turn::Ended => {
-                finish(output, out, next);
-                return;
-            }
-            Turn::Failed => return,
+    for _ in 0..u64::MAX {
+        match read_some(input, output, list, row, grants, loans, buf, out, next)? {
+            Some(p) => next = p,
+            None => return finish(output, out, next),
         }
-        turns -= 1;
     }
+    Ok(())
 }
 
 // A whole run, whatever the buffers held: three fresh units, then the input to its end. A failed read or write ends it with no further
@@ -147,5 +137,5 @@ pub fn run<I: Read, O: Print>(
         (units_in list.new row.new grants.new loans.new) buf.new }
 {
     reader::fresh(list, row, grants, loans);
-    read_all(input, output, list, row, grants, loans, buf, out);
+    let _ = read_all(input, output, list, row, grants, loans, buf, out);
 }

@@ -1,13 +1,14 @@
 -- A run of the program: each turn of the reader, and that the parts in which the input is taken don't matter.
 use mathlib.Core.Path.{◌≡◌, refl, sym, ap, ap₂, ◌∙◌, subst}
-use mathlib.Core.Bool.{true, false, cond, and-false}
+use lib.Arith.{lt_of_le-ne}
+use mathlib.Core.Bool.{Bool, true, false, cond, and-false}
 use mathlib.Core.List.{List, [], ◌∷◌, ◌++◌, append_assoc, append-nil}
 use Prim.Native.Nat.{ℕ, suc, ◌+◌, ◌-◌, ◌≤◌, ◌<◌}
 use native.Mathlib.Omega.{arith}
 use native.Mathlib.Numerals.{add-one}
 use native.Mathlib.Nat.{add-zero}
-use borrow.Author.Tests.{lt-ltb, le-ltb, ltb-true, leb-true, le-leb, lt-leb}
-use lib.ListN.{length, take, drop, length-append, length-drop, take-append-drop, drop_of_length-le}
+use borrow.Author.Tests.{eqb-true, eqb-false, lt-ltb, le-ltb, ltb-true, leb-true, le-leb, lt-leb}
+use lib.ListN.{length, take, drop, length-append, length-drop, take-append-drop}
 use lib.Seq.{take_all, take-add, drop-drop, drop-length}
 use lib.Dec.{eqb, leb}
 use Rattle.agreement.specs.Agreement.{Units}
@@ -245,70 +246,77 @@ module _ {s s' : Session} {chunk out out' : List ℕ} {used written : ℕ} (c : 
 
 -- ---- the loop over a chunk
 -- how far the loop is: these pieces are done, and what is taken of the chunk are these and what is taken of the rest
-pub record Going (s₀ s : Session) (chunk out₀ out : List ℕ) (i at : ℕ) : Type 0 where
+pub record Going (s₀ s : Session) (chunk out₀ out rest : List ℕ) (at : ℕ) : Type 0 where
   pub done : List Line
-  pub bytes : i ≡ bytes_of done
-  pub part : i ≤ length chunk
-  pub taken : taken_of (length out₀) s₀ chunk ≡ done ++ taken_from (length out₀) at s (lines_of (drop i chunk))
+  pub part : bytes_of done + length rest ≡ length chunk
+  pub left : rest ≡ drop (bytes_of done) chunk
+  pub taken : taken_of (length out₀) s₀ chunk ≡ done ++ taken_from (length out₀) at s (lines_of rest)
   pub session : s ≡ session_after_all s₀ done
   pub output : Wrote out₀ 0 (pieces_output s₀ done) at out
   pub within : at ≤ length out₀
 
-pub going_start : (s : Session) (chunk out : List ℕ) → Going s s chunk out out 0 0
+pub going_start : (s : Session) (chunk out : List ℕ) → Going s s chunk out out chunk 0
 unfolding bytes_of session_after_all pieces_output
 going_start s chunk out = record {
   done = [];
-  bytes = refl;
   part = omega arith;
+  left = refl;
   taken = refl;
   session = refl;
   output = wrote_none out 0;
   within = omega arith;
 }
 
-module _ (s₀ s : Session) (chunk out₀ out : List ℕ) (i at : ℕ) (g : Going s₀ s chunk out₀ out i at) (n : length out ≡ length out₀) where
-  pub going_next : i < length chunk → room (length out) at ≡ true → s.lines < last_lines → (used r : ℕ) (s' : Session) (out' : List ℕ)
-      → Takes s (take (length chunk - i) (drop i chunk)) out at used r s' out' → (0 < used) × Going s₀ s' chunk out₀ out' (i + used) r
-  unfolding taken_from bytes_of session_after_all pieces_output
-  going_next h e k used r s' out' t =
-      let d : List ℕ = drop i chunk in
-      let nd = length-drop i chunk in
-      let pe : take (length chunk - i) d ≡ d = take_all (length chunk - i) d (omega (arith, nd)) in
-      let ud : used ≡ used_in d = t.part ∙ ap used_in pe in
-      let b = used_some d (omega arith) in
-      let x : Line = piece_of d in
-      let px : piece_of (take (length chunk - i) d) ≡ x = ap piece_of pe in
-      let room_for = leb-true (at + 128) (length out) e in
-      let e₀ : room (length out₀) at ≡ true = rw n at e in
-      let goes : goes_on (length out₀) at s ≡ true = both e₀ (lt-ltb s.lines last_lines k) in
-      let xs : List Line = g.done in
-      let w : Wrote out at (piece_output s x) r out' = wrote_is (ap (piece_output s) px) t.output in
-      let left : lines_of (drop (used_in d) d) ≡ lines_of (drop (i + used) chunk) =
-      ap lines_of (drop-drop (used_in d) i chunk ∙ ap (λ (m : ℕ). drop (i + m) chunk) (sym ud)) in
-      let more : taken_from (length out₀) at s (lines_of d) ≡ x ∷ taken_from (length out₀) r s' (lines_of (drop (i + used) chunk)) =
-      ap (taken_from (length out₀) at s) (lines_next d (omega arith)) ∙ rw goes (ap (λ (ys : List Line). x ∷ ys)
-      (ap (λ (m : ℕ). taken_from (length out₀) m (session_after s x) (lines_of (drop (used_in d) d))) (sym w.place)
-      ∙ ap₂ (taken_from (length out₀) r) (sym (t.session ∙ ap (session_after s) px)) left)) in (
-        omega arith,
+-- what a test for emptiness tells
+pub some_left : (l : List ℕ) {b : Bool} → b ≡ eqb (length l) 0 → b ≡ false → 0 < length l
+some_left l e q = lt_of_le-ne (omega arith) (λ z. eqb-false (length l) 0 (sym e ∙ q) (sym z))
+
+pub none_left : (l : List ℕ) {b : Bool} → b ≡ eqb (length l) 0 → b ≡ true → length l ≡ 0
+none_left l e q = eqb-true (length l) 0 (sym e ∙ q)
+
+pub nothing : (l : List ℕ) → length l ≡ 0 → l ≡ []
+nothing [] e = refl
+nothing (b ∷ l) e = absurd (omega arith)
+
+module _ {s₀ s : Session} {chunk out₀ out rest : List ℕ} {at : ℕ} (g : Going s₀ s chunk out₀ out rest at) (n : length out ≡ length out₀) where
+  module _ {used r : ℕ} {s' : Session} {out' : List ℕ} (t : Takes s rest out at used r s' out') (h : 0 < length rest) where
+    -- a piece is some of the rest
+    pub going_used : (0 < used) × (used ≤ length rest)
+    going_used = rw t.part (used_some rest h)
+
+    pub going_next : room (length out) at ≡ true → s.lines < last_lines → Going s₀ s' chunk out₀ out' (drop used rest) r
+    unfolding taken_from bytes_of session_after_all pieces_output
+    going_next e k =
+        let b = going_used in
+        let x : Line = piece_of rest in
+        let room_for = leb-true (at + 128) (length out) e in
+        let e₀ : room (length out₀) at ≡ true = rw n at e in
+        let goes : goes_on (length out₀) at s ≡ true = both e₀ (lt-ltb s.lines last_lines k) in
+        let xs : List Line = g.done in
+        let more : taken_from (length out₀) at s (lines_of rest) ≡ x ∷ taken_from (length out₀) r s' (lines_of (drop used rest)) =
+        ap (taken_from (length out₀) at s) (lines_next rest h) ∙ rw goes (ap (λ (ys : List Line). x ∷ ys)
+        (ap (λ (m : ℕ). taken_from (length out₀) m (session_after s x) (lines_of (drop (used_in rest) rest))) (sym t.output.place)
+        ∙ ap₂ (taken_from (length out₀) r) (sym t.session) (ap (λ (m : ℕ). lines_of (drop m rest)) (sym t.part)))) in
+        let bytes : bytes_of (xs ++ (x ∷ [])) ≡ bytes_of xs + used = omega (arith, bytes-append xs (x ∷ []), t.part) in
         record {
           done = xs ++ (x ∷ []);
-          bytes = omega (arith, g.bytes, bytes-append xs (x ∷ []), ud);
-          part = omega arith;
+          part = omega (arith, bytes, g.part, length-drop used rest);
+          left = ap (drop used) g.left ∙ drop-drop used (bytes_of xs) chunk ∙ ap (λ (m : ℕ). drop m chunk) (sym bytes);
           taken = g.taken ∙ ap (λ (ys : List Line). xs ++ ys) more ∙ sym (append_assoc xs (x ∷ []) _);
-          session = t.session ∙ ap₂ session_after g.session px ∙ sym (after-append s₀ xs (x ∷ []));
+          session = t.session ∙ ap (λ (q : Session). session_after q x) g.session ∙ sym (after-append s₀ xs (x ∷ []));
           output = wrote_is (ap (λ (q : Session). pieces_output s₀ xs ++ piece_output q x) g.session
               ∙ ap (λ (l : List ℕ). pieces_output s₀ xs ++ l) (sym (append-nil (piece_output (session_after_all s₀ xs) x)))
-              ∙ sym (output-append s₀ xs (x ∷ []))) (wrote_then g.output w);
+              ∙ sym (output-append s₀ xs (x ∷ []))) (wrote_then g.output t.output);
           within = omega (arith, t.short);
-        },
-      )
+        }
 
   -- the chunk is used up, there is no room left, or a run's last line was counted
-  stop : taken_from (length out₀) at s (lines_of (drop i chunk)) ≡ [] → Consumes s₀ chunk out₀ i at s out
+  stop : taken_from (length out₀) at s (lines_of rest) ≡ [] → Consumes s₀ chunk out₀ (length chunk - length rest) at s out
   stop none =
       let all : taken_of (length out₀) s₀ chunk ≡ g.done =
-      g.taken ∙ ap (λ (ys : List Line). g.done ++ ys) none ∙ append-nil g.done in record {
-        part = g.bytes ∙ ap bytes_of (sym all);
+      g.taken ∙ ap (λ (ys : List Line). g.done ++ ys) none ∙ append-nil g.done in
+      let used : length chunk - length rest ≡ bytes_of g.done = omega (arith, g.part) in record {
+        part = used ∙ ap bytes_of (sym all);
         session = g.session ∙ ap (session_after_all s₀) (sym all);
         output = wrote_is (ap (pieces_output s₀) (sym all)) g.output;
         within = g.within;
@@ -319,27 +327,15 @@ module _ (s₀ s : Session) (chunk out₀ out : List ℕ) (i at : ℕ) (g : Goin
   none_taken [] e = refl
   none_taken (x ∷ xs) e = rw e
 
-  pub going_end : length chunk ≤ i → Consumes s₀ chunk out₀ i at s out
+  pub going_end : length rest ≡ 0 → Consumes s₀ chunk out₀ (length chunk - length rest) at s out
   unfolding taken_from lines_from
-  going_end h = stop (ap (λ (l : List ℕ). taken_from (length out₀) at s (lines_of l)) (drop_of_length-le chunk h))
+  going_end h = stop (ap (λ (l : List ℕ). taken_from (length out₀) at s (lines_of l)) (nothing rest h))
 
-  pub going_full : room (length out) at ≡ false → Consumes s₀ chunk out₀ i at s out
+  pub going_full : room (length out) at ≡ false → Consumes s₀ chunk out₀ (length chunk - length rest) at s out
   going_full e = let e₀ : room (length out₀) at ≡ false = rw n at e in stop (none_taken _ (rw e₀))
 
-  pub going_last : last_lines ≤ s.lines → Consumes s₀ chunk out₀ i at s out
+  pub going_last : last_lines ≤ s.lines → Consumes s₀ chunk out₀ (length chunk - length rest) at s out
   going_last h = stop (none_taken _ (rw (le-ltb s.lines last_lines h) (and-false (room (length out₀) at))))
-
--- no buffer changes its length
-pub record Kept (list₀ row₀ grants₀ loans₀ buf₀ out₀ list' row' grants' loans' buf' out' : List ℕ) : Type 0 where
-  pub list : length list' ≡ length list₀
-  pub row : length row' ≡ length row₀
-  pub grants : length grants' ≡ length grants₀
-  pub loans : length loans' ≡ length loans₀
-  pub buf : length buf' ≡ length buf₀
-  pub out : length out' ≡ length out₀
-
-pub kept_start : (list row grants loans buf out : List ℕ) → Kept list row grants loans buf out list row grants loans buf out
-kept_start list row grants loans buf out = record { list = refl; row = refl; grants = refl; loans = refl; buf = refl; out = refl }
 
 -- ---- the end of input
 module _ (out : List ℕ) (n : ℕ) (p : Partial) where

@@ -133,30 +133,16 @@ pub fn consume(
         buf.new result.next.held) out.new }
 {
     let mut next = p;
-    let mut at: usize = 0;
-    let mut i: usize = 0;
-    while i < chunk.len() {
-        if !has_room(out.len(), at) {
-            return Consumed {
-                used: i,
-                written: at,
-                next,
-            };
-        }
-        if next.lines >= Progress::LAST {
-            return Consumed {
-                used: i,
-                written: at,
-                next,
-            };
-        }
-        let t = take_piece(list, row, grants, loans, buf, out, at, next, &chunk[i..]);
-        i += t.used;
+    let mut at = 0;
+    let mut rest = chunk;
+    while !rest.is_empty() && has_room(out.len(), at) && next.lines < Progress::LAST {
+        let t = take_piece(list, row, grants, loans, buf, out, at, next, rest);
+        rest = &rest[t.used..];
         at = t.at;
         next = t.next;
     }
     Consumed {
-        used: i,
+        used: chunk.len() - rest.len(),
         written: at,
         next,
     }
@@ -168,14 +154,10 @@ pub fn close(out: &mut [u8], p: Progress) -> usize
     ensures { Closes out.old p.lines p.held result out.new }
 {
     let lines = p.lines;
-    let held = p.held;
-    if out.len() < 256 {
+    if out.len() < 256 || Progress::LAST < lines {
         return 0;
     }
-    if Progress::LAST < lines {
-        return 0;
-    }
-    if !held.is_begun() {
+    if !p.held.is_begun() {
         return output::put_last(out, 0, lines);
     }
     let malformed = Reply::malformed();

@@ -1,59 +1,50 @@
 -- In each arm the values go where the grammar's form hands them, by computation; where they are narrowed, those within their limits lose
 -- nothing (`narrow_meaning`).
-use borrow.Author.Rules.{rules}
-use mathlib.Core.Path.{refl, ◌∙◌}
-use Rattle.lines.specs.Grammar.{meaning}
-use Rattle.lines.proofs.Verbs.{past}
+use mathlib.Core.Path.{◌∙◌}
+use Rattle.lines.specs.declared.Verb.TheVariants.{Create, Delete, Allow, AllowSet, Withdraw, Drop, Lend, Recall, Shift, Sweep, Check}
 use Rattle.lines.proofs.Turns.{narrow_meaning}
 use Rattle.lines.proofs.meaning_of.Goals as goal
 
-pub returns-in-0 : goal.returns-in-0
-returns-in-0 c = narrow_meaning 0 _ c.in-0.is c.requires
+pub returns-in-Create : goal.returns-in-Create
+returns-in-Create c =
+    narrow_meaning Create _ _ c.in-Create.is c.lowest.ensures c.requires
 
-pub returns-in-1 : goal.returns-in-1
-returns-in-1 c = narrow_meaning 1 _ c.in-1.is c.requires
+pub returns-in-Delete : goal.returns-in-Delete
+returns-in-Delete c =
+    narrow_meaning Delete _ _ c.in-Delete.is c.lowest.ensures c.requires
 
-pub returns-in-2 : goal.returns-in-2
-returns-in-2 c =
-    c.allow.ensures
-    ∙ narrow_meaning 2 _ c.in-2.is c.requires
+pub returns-in-Allow : goal.returns-in-Allow
+returns-in-Allow c =
+    c.allow.ensures ∙ narrow_meaning Allow _ _ c.in-Allow.is c.lowest.ensures c.requires
 
-pub returns-in-3 : goal.returns-in-3
-returns-in-3 c =
-    c.allow_set.ensures
-    ∙ narrow_meaning 3 _ c.in-3.is c.requires
+pub returns-in-AllowSet : goal.returns-in-AllowSet
+returns-in-AllowSet c =
+    c.allow_set.ensures ∙ narrow_meaning AllowSet _ _ c.in-AllowSet.is c.lowest.ensures c.requires
 
-pub returns-in-4 : goal.returns-in-4
-returns-in-4 c =
-    c.withdraw.ensures
-    ∙ narrow_meaning 4 _ c.in-4.is c.requires
+pub returns-in-Withdraw : goal.returns-in-Withdraw
+returns-in-Withdraw c =
+    c.withdraw.ensures ∙ narrow_meaning Withdraw _ _ c.in-Withdraw.is c.lowest.ensures c.requires
 
-pub returns-in-5 : goal.returns-in-5
-returns-in-5 c =
-    c.drop_depth.ensures
-    ∙ narrow_meaning 5 _ c.in-5.is c.requires
+pub returns-in-Drop : goal.returns-in-Drop
+returns-in-Drop c =
+    c.drop_depth.ensures ∙ narrow_meaning Drop _ _ c.in-Drop.is c.lowest.ensures c.requires
 
-pub returns-in-6 : goal.returns-in-6
-returns-in-6 c =
-    c.lend.ensures
-    ∙ narrow_meaning 6 _ c.in-6.is c.requires
+pub returns-in-Lend : goal.returns-in-Lend
+returns-in-Lend c =
+    c.lend.ensures ∙ narrow_meaning Lend _ _ c.in-Lend.is c.lowest.ensures c.requires
 
-pub returns-in-7 : goal.returns-in-7
-returns-in-7 c =
-    c.recall.ensures
-    ∙ narrow_meaning 7 _ c.in-7.is c.requires
+pub returns-in-Recall : goal.returns-in-Recall
+returns-in-Recall c =
+    c.recall.ensures ∙ narrow_meaning Recall _ _ c.in-Recall.is c.lowest.ensures c.requires
 
-pub returns-in-8 : goal.returns-in-8
-returns-in-8 c = narrow_meaning 8 _ c.in-8.is c.requires
+pub returns-in-Shift : goal.returns-in-Shift
+returns-in-Shift c =
+    narrow_meaning Shift _ _ c.in-Shift.is c.lowest.ensures c.requires
 
-pub returns-in-9 : goal.returns-in-9
-returns-in-9 c = narrow_meaning 9 _ c.in-9.is c.requires
+pub returns-in-Sweep : goal.returns-in-Sweep
+returns-in-Sweep c =
+    narrow_meaning Sweep _ _ c.in-Sweep.is c.lowest.ensures c.requires
 
-pub returns-in-10 : goal.returns-in-10
-returns-in-10 c =
-    c.ask.ensures
-    ∙ narrow_meaning 10 _ c.in-10.is c.requires
-
-pub returns-in_default : goal.returns-in_default
-unfolding meaning
-returns-in_default c = rw (past c.args.verb (search rules)) refl
+pub returns-in-Check : goal.returns-in-Check
+returns-in-Check c =
+    c.ask.ensures ∙ narrow_meaning Check _ _ c.in-Check.is c.lowest.ensures c.requires

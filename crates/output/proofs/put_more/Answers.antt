@@ -7,17 +7,17 @@ use native.Mathlib.Omega.{arith}
 use mathlib.Core.Path.{refl, sym, ap, ◌∙◌}
 use Rattle.output.proofs.put_more.Goals as goal
 
-pub loop-i-init : goal.loop-i-init
-loop-i-init c = (omega arith, refl, unfold more_persons in (wrote_none _ _), omega arith)
+pub loop-person-init : goal.loop-person-init
+loop-person-init c = (refl, unfold more_persons in (wrote_none _ _), omega arith)
 
-pub loop-i-preserved : goal.loop-i-preserved
-loop-i-preserved c = (
-  omega arith,
-  c.put_next-p.auto.buf ∙ c.loop-i.invariant.1,
-  wrote_is (sym (more_next c.args.via.now c.loop-i.i (omega arith))) (wrote_then c.loop-i.invariant.2 c.put_next-p.ensures.0),
+pub loop-person-preserved : goal.loop-person-preserved
+loop-person-preserved c = (
+  c.put_next-p.auto.buf ∙ c.loop-person.invariant.0,
+  wrote_is (sym (more_next c.args.via.now c.loop-person.person-index c.loop-person-test.true))
+      (wrote_then c.loop-person.invariant.1 c.put_next-p.ensures.0),
   omega arith,
 )
 
 pub returns : goal.returns
 returns c =
-    (wrote_is (ap more_persons (take_all c.loop-i.i c.args.via.now (omega arith))) c.loop-i.invariant.2, omega arith)
+    (wrote_is (ap more_persons (take_all c.loop-person.person-index c.args.via.now (omega arith))) c.loop-person.invariant.1, omega arith)
