@@ -14,13 +14,14 @@ use Rattle.delegation.specs.Loans.{rising}
 use Rattle.delegation.specs.Below.{Below}
 use Rattle.delegation.proofs.Rising.{rising-at}
 
+-- as the library says that numbers rise
+pub rising-up : (words : List ℕ) → rising words ≡ true → (i j : ℕ) → i ≤ j → j < length words → get_or words i 0 ≤ get_or words j 0
+rising-up words r i j l h =
+    by_cases (eqb i j) (λ t. let e = ap (λ (k : ℕ). get_or words k 0) (eqb-true i j t) in omega arith)
+    (λ t. let n = eqb-false i j t in omega (arith, rising-at words r i j (omega arith) h))
+
 pub rises_parted : (words : List ℕ) → rising words ≡ true → (x : ℕ) → IsPartitionedBy (λ w. ltb w x) words
-rises_parted words r x = IsPartitionedBy-ltb (λ w. w) words x (IsNonDecreasingBy-from_default (λ w. w) words 0 up)
-  where
-    up : (i j : ℕ) → i ≤ j → j < length words → get_or words i 0 ≤ get_or words j 0
-    up i j l h =
-        by_cases (eqb i j) (λ t. let e = ap (λ (k : ℕ). get_or words k 0) (eqb-true i j t) in omega arith)
-        (λ t. let n = eqb-false i j t in omega (arith, rising-at words r i j (omega arith) h))
+rises_parted words r x = IsPartitionedBy-ltb (λ w. w) words x (IsNonDecreasingBy-from_default (λ w. w) words 0 (rising-up words r))
 
 pub below_point : (words : List ℕ) (x i : ℕ) → i ≤ length words → IsPartitionPoint (λ w. ltb w x ≡ true) (λ w. ltb w x ≡ false) words i
     → Below words x i
