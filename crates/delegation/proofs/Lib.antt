@@ -1,5 +1,6 @@
 pub mod Rising
 pub mod Below
+pub mod Chunks
 pub mod Loans
 pub mod Picking
 pub mod Search
