@@ -1,12 +1,13 @@
--- Chains over words that fold with no exit: `s.iter().fold(a, |all, w| all & test(w))`, and the same with a state that is judged at the end.
+-- Chains over words: what the tests of `Rattle.delegation.proofs.Folds` come to at windows of two, at chunks, and as `any`.
 use mathlib.Core.Path.{◌≡◌, refl, sym, ap, ap₂, ◌∙◌, subst}
 use mathlib.Core.Bool.{Bool, true, false, not, ◌&&◌, ◌||◌, and_assoc, and-true, not-not}
 use mathlib.Core.List.{List, [], ◌∷◌, ◌++◌}
 use mathlib.Core.Bool.{cond}
 use Prim.Native.Nat.{ℕ, zero, suc, ◌+◌, ◌*◌, ◌≤◌, ◌<◌}
 use native.Mathlib.Omega.{arith}
-use native.Mathlib.Nat.{zero-mul, suc-mul, add_comm}
-use Rattle.std.proofs.lemmas.List.{drop-drop}
+use native.Mathlib.Nat.{zero-mul}
+use Rattle.delegation.proofs.Chunks.{drop_chunk}
+use Rattle.delegation.proofs.Folds.{Ran, Tests, all_yielded}
 use lib.ListN.{length, get_or, take, drop, take-append-drop}
 use lib.Dec.{eqb, ltb}
 use denote.Param.Members.{Mut}
@@ -24,39 +25,6 @@ use Rattle.bits.specs.Sets.{any, all}
 use Rattle.delegation.specs.Loans.{rising}
 use Rattle.model.proofs.Invariant.{eqb_sym}
 use Rattle.delegation.proofs.Rising.{rising-next, rising-short}
-
-module _ {A : Type 0} (p : A → Bool) where
-  all-snoc : (xs : List A) (x : A) → all p (xs ++ (x ∷ [])) ≡ (all p xs && p x)
-  unfolding all
-  all-snoc [] x = and-true (p x)
-  all-snoc (y ∷ xs) x = ap (λ b. p y && b) (all-snoc xs x) ∙ sym (and_assoc (p y) (all p xs) (p x))
-
-  all-append : (xs ys : List A) → all p (xs ++ ys) ≡ (all p xs && all p ys)
-  unfolding all
-  all-append [] ys = refl
-  all-append (x ∷ xs) ys = ap (λ b. p x && b) (all-append xs ys) ∙ sym (and_assoc (p x) (all p xs) (all p ys))
-
-  module _ {C F : Type 0} (g : Mut F (C × (Bor A × Unit {0})) C) (passes : C → Bool) (f : F) where
-    -- a call makes a state pass exactly where it did and the word passes, and changes nothing that the closure holds
-    abbrev pub Tests : Type 0
-    Tests = (a : C) (x : Bor A) (b : C) (f' : F) → Called g f (a, (x, tt)) b f' → (passes b ≡ passes a && p x.now) × (f' ≡ f)
-
-    abbrev pub Ran : {S : Type 0} → (S → Option (Bor A) → S → Type 0) → S → C → C → Type 0
-    Ran steps s a r = (ys : List (Bor A)) × (f' : F) × Drains steps s ys × FoldsTo {P = F × C} (FoldTurn g) (f, a) ys (f', r)
-
-    -- the state at the end passes exactly where the first does and every word
-    all_yielded : {S : Type 0} (steps : S → Option (Bor A) → S → Type 0) (s : S) (xs : List A) (a r : C)
-        → AlwaysYields steps (λ (y : Bor A). y.now) s xs → Tests → Ran steps s a r → passes r ≡ passes a && all p xs
-    unfolding all
-    all_yielded steps s xs a r yields turn ran =
-        fold_over steps (λ (y : Bor A). y.now) g (λ ys c. passes c ≡ passes a && all p ys) f
-        (λ ys c x b f' j k. let w = turn c x b f' k in
-        (w.0 ∙ ap (λ z. z && p x.now) j ∙ and_assoc (passes a) (all p ys) (p x.now) ∙ ap (λ z. passes a && z) (sym (all-snoc ys x.now)), w.1))
-        s xs a r yields (sym (and-true (passes a))) ran
-
-    pub all_fold : (s : Iter A) (xs : List A) (a r : C) → Ran fronts s a r → iter_rest s ≡ xs → Tests → passes r ≡ passes a && all p xs
-    all_fold s xs a r ran e turn =
-        all_yielded fronts s xs a r (subst (λ (zs : List A). AlwaysYields fronts (λ (y : Bor A). y.now) s zs) e (slice_gives s)) turn ran
 
 -- no word fails, where some would: the same of `any`
 pub any-none : {A : Type 0} (p : A → Bool) (xs : List A) → not (all (λ x. not (p x)) xs) ≡ any p xs
@@ -106,11 +74,16 @@ rising_fold g f s xs r ran e z turn =
     all_yielded pair_rises g (λ b. b) f windows_steps s (pairs xs) true r (pairs_yielded s xs e z) turn ran ∙ pairs-rising xs
 
 -- ---- words by chunks of the same length
+all-append : (p : ℕ → Bool) (xs ys : List ℕ) → all p (xs ++ ys) ≡ (all p xs && all p ys)
+unfolding all
+all-append p [] ys = refl
+all-append p (x ∷ xs) ys = ap (λ b. p x && b) (all-append p xs ys) ∙ sym (and_assoc (p x) (all p xs) (all p ys))
+
 pub chunks-all : (p : ℕ → Bool) (n k : ℕ) (xs : List ℕ) → all (all p) (first_chunks n k xs) && all p (drop (k * n) xs) ≡ all p xs
 unfolding all
 chunks-all p n zero xs = ap (λ (m : ℕ). all p (drop m xs)) (zero-mul n)
 chunks-all p n (suc k) xs =
-    ap (λ b. (all p (take n xs) && all (all p) (first_chunks n k (drop n xs))) && b) (ap (all p) (ap (λ (m : ℕ). drop m xs) (suc-mul k n ∙ add_comm (k * n) n) ∙ sym (drop-drop (k * n) n xs)))
+    ap (λ b. (all p (take n xs) && all (all p) (first_chunks n k (drop n xs))) && b) (ap (all p) (sym (drop_chunk n k xs)))
     ∙ and_assoc (all p (take n xs)) (all (all p) (first_chunks n k (drop n xs))) (all p (drop (k * n) (drop n xs)))
     ∙ ap (λ b. all p (take n xs) && b) (chunks-all p n k (drop n xs))
     ∙ sym (all-append p (take n xs) (drop n xs)) ∙ ap (all p) (take-append-drop n xs)

@@ -103,10 +103,6 @@ image_snoc h ws x n l =
 pub room : (n : ℕ) (b : Bool) → leb most_loans n && not b ≡ false → b ≡ false → n < most_loans
 room n b e f = leb-false most_loans n (sym (and-true (leb most_loans n)) ∙ ap (λ x. leb most_loans n && not x) (sym f) ∙ e)
 
--- where a loan stands there is one
-pub stands_some : (t : List ℕ) (word : ℕ) → any (eqb word) (used t) ≡ true → 0 < length (used t)
-stands_some t word a = let f = find_at (eqb word) 0 (used t) a in omega (arith, f.1)
-
 module _ (t : List ℕ) (o : Ordered t) where
   pub standing : (word : ℕ) → any (eqb word) (used t) ≡ true → t ≡ loans_with word t
   standing word h = o.whole ∙ ap (loans_image (header_in t)) (sym (insert-present word (used t) o.rises h))

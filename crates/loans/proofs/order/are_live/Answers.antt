@@ -4,7 +4,8 @@ use mathlib.Core.Path.{◌≡◌, ◌∙◌, ap}
 use mathlib.Core.Bool.{◌&&◌}
 use Rattle.bits.specs.Sets.{all}
 use Rattle.loans.specs.Words.{unmasked, names_live, none_dead}
-use Rattle.loans.proofs.Folds.{all_fold, chunks-all}
+use Rattle.delegation.proofs.Folds.{all_fold}
+use Rattle.loans.proofs.Folds.{chunks-all}
 use Rattle.loans.proofs.Loops.{dead_zero}
 use Rattle.loans.proofs.order.are_live.Goals as goal
 

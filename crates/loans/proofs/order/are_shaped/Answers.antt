@@ -1,6 +1,6 @@
 use Rattle.std.proofs.Common.{rules}
 use Rattle.loans.specs.Words.{shaped}
-use Rattle.loans.proofs.Folds.{all_fold}
+use Rattle.delegation.proofs.Folds.{all_fold}
 use Rattle.loans.proofs.order.are_shaped.Goals as goal
 
 pub returns : goal.returns

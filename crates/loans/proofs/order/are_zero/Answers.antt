@@ -4,7 +4,7 @@ use mathlib.Core.Bool.{◌&&◌}
 use lib.Dec.{eqb}
 use Rattle.bits.proofs.Scan.{or-zero}
 use Rattle.model.proofs.Invariant.{eqb_sym}
-use Rattle.loans.proofs.Folds.{all_fold}
+use Rattle.delegation.proofs.Folds.{all_fold}
 use Rattle.loans.proofs.order.are_zero.Goals as goal
 
 pub returns : goal.returns

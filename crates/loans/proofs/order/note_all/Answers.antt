@@ -1,6 +1,6 @@
 use Rattle.std.proofs.Common.{rules}
 use Rattle.loans.specs.Words.{unmasked, names_live, none_dead}
-use Rattle.loans.proofs.Folds.{all_fold}
+use Rattle.delegation.proofs.Folds.{all_fold}
 use Rattle.loans.proofs.order.note_all.Goals as goal
 
 pub returns : goal.returns

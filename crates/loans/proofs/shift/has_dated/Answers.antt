@@ -2,7 +2,8 @@ use Rattle.std.proofs.Common.{rules}
 use mathlib.Core.Path.{◌∙◌, sym, ap}
 use mathlib.Core.Bool.{not, not-not}
 use Rattle.delegation.specs.Loans.{word_dated}
-use Rattle.loans.proofs.Folds.{all_fold, any-none}
+use Rattle.delegation.proofs.Folds.{all_fold}
+use Rattle.loans.proofs.Folds.{any-none}
 use Rattle.loans.proofs.shift.has_dated.Goals as goal
 
 pub returns : goal.returns
