@@ -70,16 +70,16 @@ arrive_other v w q t = arrive_else v w q (λ e. false≢true (sym (ap not (eq-eq
 
 -- the 16 before place i, which are all to others by their test r
 pub others_before : (ls : List ℕ) (q i n r : ℕ) → 16 ≤ i → i ≤ length ls
-    → eqb r 0 ≡ all_below (length (take (i - (i - 16)) (drop (i - 16) ls))) (λ (j : ℕ). is_to_other q (get_or (take (i - (i - 16)) (drop (i - 16) ls)) j 0))
+    → eqb r 0 ≡ all_below (length (drop (i - 16) (take i ls))) (λ (j : ℕ). is_to_other q (get_or (drop (i - 16) (take i ls)) j 0))
     → r ≡ 0 → ToOthers ls q i n → ToOthers ls q (i - 16) n
 others_before ls q i n r h inside e z others j l k =
     by_cases (dec_lt j i)
-    (λ d. let part : List ℕ = take (i - (i - 16)) (drop (i - 16) ls) in
-    let m : length part ≡ 16 = length-take-le (i - (i - 16)) (drop (i - 16) ls) (simp length-drop (omega arith)) ∙ omega arith in
+    (λ d. let part : List ℕ = drop (i - 16) (take i ls) in
+    let m : length part ≡ 16 = length-drop (i - 16) (take i ls) ∙ omega (arith, length-take-le i ls inside) in
     let t = below_elim (length part) (λ (j : ℕ). is_to_other q (get_or part j 0)) (sym e ∙ eq-eqb r 0 z) (j - (i - 16)) (omega arith) in
-    let p : get_or part (j - (i - 16)) 0 ≡ get_or ls j 0 =
-    get_or-take (i - (i - 16)) (drop (i - 16) ls) (j - (i - 16)) 0 (omega arith) ∙ get_or-drop (i - 16) ls (j - (i - 16)) 0
-    ∙ ap (λ (n : ℕ). get_or ls n 0) (let o : i - 16 + (j - (i - 16)) ≡ j = omega arith in o) in
+    let o : i - 16 + (j - (i - 16)) ≡ j = omega arith in
+    let p : get_or part (j - (i - 16)) 0 ≡ get_or ls j 0
+    = get_or-drop (i - 16) (take i ls) (j - (i - 16)) 0 ∙ ap (λ (n : ℕ). get_or (take i ls) n 0) o ∙ get_or-take i ls j 0 d in
     ap (is_to_other q) (sym p) ∙ t)
     (λ d. others j (omega arith) k)
 
