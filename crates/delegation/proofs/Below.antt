@@ -1,23 +1,29 @@
--- Halving: of rising words the one in the middle tells of all on one side of it.
-use mathlib.Core.Path.{◌≡◌, subst}
-use mathlib.Core.Bool.{true}
+-- The place of a number among rising words: they are parted by lying below it.
+use mathlib.Core.Path.{◌≡◌, ap}
+use mathlib.Core.Bool.{true, false}
 use mathlib.Core.List.{List}
-use Prim.Native.Nat.{ℕ, ◌+◌, ◌≤◌, ◌<◌}
+use Prim.Native.Nat.{ℕ, ◌≤◌, ◌<◌}
 use native.Mathlib.Omega.{arith}
-use borrow.Author.Tests.{ltb-true, ltb-false}
+use borrow.Author.Tests.{ltb-true, ltb-false, eqb-true, eqb-false}
 use lib.ListN.{length, get_or}
-use lib.Dec.{ltb}
+use lib.Dec.{eqb, ltb}
+use Rattle.std.specs.List.Sorted.{IsPartitionedBy, IsPartitionPoint}
+use Rattle.std.proofs.lemmas.List.Sorted.{IsPartitionedBy-ltb, IsNonDecreasingBy-from_default}
 use Rattle.bits.proofs.Sets.{by_cases}
 use Rattle.delegation.specs.Loans.{rising}
+use Rattle.delegation.specs.Below.{Below}
 use Rattle.delegation.proofs.Rising.{rising-at}
 
-module _ (words : List ℕ) (rises : rising words ≡ true) (x mid : ℕ) (inside : mid < length words) where
-  pub halve_low : get_or words mid 0 < x → (i : ℕ) → i < mid + 1 → get_or words i 0 < x
-  halve_low h i l =
-      by_cases (ltb i mid) (λ t. omega (arith, rising-at words rises i mid (ltb-true i mid t) inside))
-      (λ t. let e : mid ≡ i = omega (arith, ltb-false i mid t) in subst (λ (n : ℕ). get_or words n 0 < x) e h)
+-- as the library says that numbers rise
+pub rising-up : (words : List ℕ) → rising words ≡ true → (i j : ℕ) → i ≤ j → j < length words → get_or words i 0 ≤ get_or words j 0
+rising-up words r i j l h =
+    by_cases (eqb i j) (λ t. let e = ap (λ (k : ℕ). get_or words k 0) (eqb-true i j t) in omega arith)
+    (λ t. let n = eqb-false i j t in omega (arith, rising-at words r i j (omega arith) h))
 
-  pub halve_high : x ≤ get_or words mid 0 → (i : ℕ) → mid ≤ i → i < length words → x ≤ get_or words i 0
-  halve_high h i l k =
-      by_cases (ltb mid i) (λ t. omega (arith, rising-at words rises mid i (ltb-true mid i t) k))
-      (λ t. let e : mid ≡ i = omega (arith, ltb-false mid i t) in subst (λ (n : ℕ). x ≤ get_or words n 0) e h)
+pub rises_parted : (words : List ℕ) → rising words ≡ true → (x : ℕ) → IsPartitionedBy (λ w. ltb w x) words
+rises_parted words r x = IsPartitionedBy-ltb (λ w. w) words x (IsNonDecreasingBy-from_default (λ w. w) words 0 (rising-up words r))
+
+pub below_point : (words : List ℕ) (x i : ℕ) → i ≤ length words → IsPartitionPoint (λ w. ltb w x ≡ true) (λ w. ltb w x ≡ false) words i
+    → Below words x i
+below_point words x i b p =
+    record { within = b; low = λ k l. ltb-true _ x (p.0 k 0 (omega arith) l); high = λ k l h. ltb-false _ x (p.1 k 0 l h) }

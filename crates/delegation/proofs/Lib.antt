@@ -1,5 +1,7 @@
 pub mod Rising
 pub mod Below
+pub mod Chunks
+pub mod Folds
 pub mod Loans
 pub mod Picking
 pub mod Search

@@ -8,15 +8,5 @@ pub fn below(words: &[u32], x: u32) -> usize
     requires { rising words.now ≡ true }
     ensures { Below words.now x result }
 {
-    let mut lo: usize = 0;
-    let mut hi = words.len();
-    while lo < hi {
-        let mid = lo + (hi - lo) / 2;
-        if words[mid] < x {
-            lo = mid + 1;
-        } else {
-            hi = mid;
-        }
-    }
-    lo
+    words.partition_point(|w| *w < x)
 }

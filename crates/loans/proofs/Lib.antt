@@ -1,3 +1,4 @@
+pub mod Folds
 pub mod Loops
 pub mod Place
 pub mod Parts

@@ -28,25 +28,6 @@ note_zero d a b c p i q =
     (ap (λ x. x && (eqb c 0 && unmasked d q)) (and_swap (eqb a 0) (unmasked d p) (eqb b 0) (unmasked d i))
     ∙ and_swap (eqb a 0 && eqb b 0) (unmasked d p && unmasked d i) (eqb c 0) (unmasked d q))
 
--- a loan more: what is left to test after it
-pub note_next : (p : ℕ → Bool) (s : List ℕ) (i : ℕ) (a b : Bool) → i < length s → a ≡ b && p (get_or s i 0)
-    → a && all p (drop (i + 1) s) ≡ b && all p (drop i s)
-note_next p s i a b l e =
-    ap (λ x. x && all p (drop (i + 1) s)) e
-    ∙ sym (ap (λ x. b && x) (all-next p s i 0 l) ∙ sym (and_assoc b (p (get_or s i 0)) (all p (drop (i + 1) s))))
-
-pub note_more : (p : ℕ → Bool) (s : List ℕ) (i : ℕ) (a b c d e : Bool) → i + 3 < length s → b ≡ a && p (get_or s i 0)
-    → c ≡ b && p (get_or s (i + 1) 0) → d ≡ c && p (get_or s (i + 2) 0) → e ≡ d && p (get_or s (i + 3) 0)
-    → e && all p (drop (i + 4) s) ≡ a && all p (drop i s)
-note_more p s i a b c d e l one two three four =
-    let m : i + 1 + 1 ≡ i + 2 = omega arith in
-    let n : i + 2 + 1 ≡ i + 3 = omega arith in
-    let o : i + 3 + 1 ≡ i + 4 = omega arith in
-    sym (ap (λ (k : ℕ). e && all p (drop k s)) o) ∙ note_next p s (i + 3) e d l four
-    ∙ sym (ap (λ (k : ℕ). d && all p (drop k s)) n) ∙ note_next p s (i + 2) d c (omega arith) three
-    ∙ sym (ap (λ (k : ℕ). c && all p (drop k s)) m) ∙ note_next p s (i + 1) c b (omega arith) two
-    ∙ note_next p s i b a (omega arith) one
-
 -- ---- a word moved through a part: the first i, the one held, and the rest are these words
 pub record Held (words s : List ℕ) (hold i n : ℕ) : Type 0 where
   pub within : i ≤ n

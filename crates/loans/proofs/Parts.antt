@@ -18,7 +18,10 @@ use Rattle.bits.proofs.Sets.{by_cases, snd, all-and}
 use Rattle.bits.proofs.Indexed.{find_at}
 use Rattle.delegation.proofs.Rising.{insert-present}
 use Rattle.delegation.specs.Below.{Below}
-use Rattle.loans.proofs.Place.{in_place, insert-at, keep-others, keep_at}
+use Rattle.std.specs.Prelude.{Result, MatchResult}
+use Rattle.std.specs.Ordering.{nat_cmp}
+use Rattle.std.specs.List.Sorted.{IsBinarySearchResult}
+use Rattle.loans.proofs.Place.{searched-place, in_place, insert-at, keep-others, keep_at}
 use Rattle.loans.specs.Words.{shaped, names_live, Ordered}
 
 pub length-used : (t : List ℕ) → length (used t) ≡ min (count_of t) (length t - 1)
@@ -100,16 +103,20 @@ image_snoc h ws x n l =
 pub room : (n : ℕ) (b : Bool) → leb most_loans n && not b ≡ false → b ≡ false → n < most_loans
 room n b e f = leb-false most_loans n (sym (and-true (leb most_loans n)) ∙ ap (λ x. leb most_loans n && not x) (sym f) ∙ e)
 
--- where a loan stands there is one
-pub stands_some : (t : List ℕ) (word : ℕ) → any (eqb word) (used t) ≡ true → 0 < length (used t)
-stands_some t word a = let f = find_at (eqb word) 0 (used t) a in omega (arith, f.1)
-
 module _ (t : List ℕ) (o : Ordered t) where
   pub standing : (word : ℕ) → any (eqb word) (used t) ≡ true → t ≡ loans_with word t
   standing word h = o.whole ∙ ap (loans_image (header_in t)) (sym (insert-present word (used t) o.rises h))
 
   pub absent : (word : ℕ) → any (eqb word) (used t) ≡ false → t ≡ loans_kept (λ x. not (eqb word x)) t
   absent word h = o.whole ∙ ap (loans_image (header_in t)) (sym (keep-others word (used t) h))
+
+  -- the search of the part that holds the loans in use
+  pub placed : (word n : ℕ) → n ≡ min (count_of t) (length t - 1) → (r : Result ℕ ℕ)
+      → IsBinarySearchResult (λ y. nat_cmp y word) (take (n + 1 - 1) (drop 1 t)) r
+      → MatchResult r (λ k. Below (take (n + 1 - 1) (drop 1 t)) word k × (any (eqb word) (used t) ≡ true))
+      (λ k. Below (take (n + 1 - 1) (drop 1 t)) word k × (any (eqb word) (used t) ≡ false))
+  placed word n e r q =
+      rw (part-used t n e) (searched-place word (used t) o.rises r (rw (part-used t n e) at q))
 
   module _ (word n place : ℕ) (e : n ≡ min (count_of t) (length t - 1)) (b : Below (take (n + 1 - 1) (drop 1 t)) word place) where
     long-used : length (used t) ≡ n
@@ -173,19 +180,18 @@ good_split live w =
     ap (λ b. b && live (borrower w)) (and_assoc (shaped w) (live (lender w)) (live (loan_item w)))
     ∙ and_assoc (shaped w) (live (lender w) && live (loan_item w)) (live (borrower w))
 
-pub order-parts : (live : ℕ → Bool) (t : List ℕ) (n : ℕ) → length t ≡ loan_words → shifts (shift_in t) && leb (count_of t) most_loans ≡ true
-    → n ≡ min (count_of t) (length t - 1)
+pub order-parts : (live : ℕ → Bool) (t : List ℕ) → length t ≡ loan_words → shifts (shift_in t) && leb (count_of t) most_loans ≡ true
     → eqb (length t) loan_words && loans_in_order live t
-    ≡ rising (take (n + 1 - 1) (drop 1 t)) && all shaped (take (n + 1 - 1) (drop 1 t)) && all (names_live live) (take (n + 1 - 1) (drop 1 t))
-    && all (eqb 0) (take (length t - (n + 1)) (drop (n + 1) t))
+    ≡ rising (used t) && all shaped (used t) && all (names_live live) (used t)
+    && all (eqb 0) (take (length t - (length (used t) + 1)) (drop (length (used t) + 1) t))
 unfolding loans_in_order
-order-parts live t n l in-limits e =
+order-parts live t l in-limits =
     let few : count_of t ≤ most_loans = leb-true (count_of t) most_loans (snd (shifts (shift_in t)) _ in-limits) in
-    let z : take (length t - (n + 1)) (drop (n + 1) t) ≡ drop (n + 1) t = take_all (length t - (n + 1)) (drop (n + 1) t)
-    (simp length-drop (omega arith)) in
-    let q : n + 1 ≡ suc (count_of t) = omega arith in
+    let n : length (used t) ≡ count_of t = length-used t ∙ omega arith in
+    let z : take (length t - (count_of t + 1)) (drop (count_of t + 1) t) ≡ drop (count_of t + 1) t
+    = take_all (length t - (count_of t + 1)) (drop (count_of t + 1) t) (simp length-drop (omega arith)) in
     let g : all (word_good live) (used t) ≡ all shaped (used t) && all (names_live live) (used t)
     = (λ j. all (λ w. good_split live w j) (used t)) ∙ all-and shaped (names_live live) (used t) in
-    rw (eq-eqb (length t) loan_words l, in-limits, part-used t n e, z, q, g)
+    rw (eq-eqb (length t) loan_words l, in-limits, n, z, add-one (count_of t), g)
     (ap (λ b. b && all (eqb 0) (drop (suc (count_of t)) t))
     (sym (and_assoc (rising (used t)) (all shaped (used t)) (all (names_live live) (used t)))))

@@ -16,35 +16,13 @@ pub fn present(loans: &[u32]) -> Shift
     header.present()
 }
 
-// 0 where the loan is open-ended.
-fn dated_flag(w: u32) -> u32
-    ensures { eqb result 0 ≡ not (word_dated w) }
-{
-    loan::last(w).number()
-}
-
-fn has(s: &[u32]) -> bool
-    ensures { result ≡ any word_dated s.now }
-{
-    let mut found: u32 = 0;
-    let mut i = 0;
-    while i < s.len() {
-        let x = dated_flag(s[i]);
-        found = found | x;
-        i += 1;
-    }
-    found != 0
-}
-
-// Whether a loan with a last shift stands.
+// Whether a loan with a last shift stands. Every loan is looked at, as in `ends`.
 fn has_dated(loans: &[u32]) -> bool
     ensures { result ≡ any word_dated (used loans.now) }
 {
-    let n = crate::in_use(loans);
-    if n == 0 {
-        return false;
-    }
-    has(&loans[1..n + 1])
+    crate::used(loans)
+        .iter()
+        .fold(false, |dated, w| dated | (loan::last(*w).number() != 0))
 }
 
 // Whether that shift is below the present one while a loan with a last shift stands.

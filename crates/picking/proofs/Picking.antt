@@ -8,6 +8,8 @@ use native.Mathlib.Nat.{add-zero}
 use native.Mathlib.Numerals.{add-one}
 use lib.ListN.{length, get_or, set, take, length-append}
 use lib.Seq.{take-suc-set, take-set-le}
+use Rattle.std.specs.List.{sum_by}
+use Rattle.std.proofs.lemmas.List.Sums.{sum_by-cons}
 use Rattle.bits.specs.Sets.{keep}
 use Rattle.bits.proofs.Indexed.{keep_more}
 
@@ -62,7 +64,7 @@ skip t ls a (suc n) h e =
     ∙ skip t ls a n (omega arith) (λ i l k. e i l (omega arith))
 
 -- ---- none and all, by their number
-keep_le : (t : ℕ → Bool) (xs : List ℕ) → length (keep t xs) ≤ length xs
+pub keep_le : (t : ℕ → Bool) (xs : List ℕ) → length (keep t xs) ≤ length xs
 unfolding keep
 keep_le t [] = omega arith
 keep_le t (x ∷ xs) = go (t x) (keep_le t xs)
@@ -98,3 +100,14 @@ count_more t ls i c n h e f =
     go : (b : Bool) → n ≡ cond b 1 0 → length (keep t (take i ls)) + length (cond b (get_or ls i 0 ∷ []) []) ≡ c + n
     go true f = omega arith
     go false f = omega arith
+
+-- an element that passes counts 1, another 0: the sum is how many pass
+pub sum-keep : (t : ℕ → Bool) (xs : List ℕ) → sum_by (λ x. cond (t x) 1 0) xs ≡ length (keep t xs)
+unfolding keep
+sum-keep t [] = refl
+sum-keep t (y ∷ xs) = sum_by-cons (λ x. cond (t x) 1 0) y xs ∙ go (t y) (sum-keep t xs)
+  where
+    go : (b : Bool) → sum_by (λ x. cond (t x) 1 0) xs ≡ length (keep t xs)
+        → cond b 1 0 + sum_by (λ x. cond (t x) 1 0) xs ≡ length (cond b (y ∷ keep t xs) (keep t xs))
+    go true e = omega (arith, e)
+    go false e = omega (arith, e)

@@ -22,8 +22,7 @@ fn in_use(loans: &[u32]) -> usize
     requires { 0 < length loans.now }
     ensures { result ≡ count_of loans.now }
 {
-    let header = Header::read(loans[0]);
-    header.count as usize
+    usize::from(Header::read(loans[0]).count)
 }
 
 // The present shift, cut to its range.
@@ -31,40 +30,26 @@ fn present(loans: &[u32]) -> Shift
     requires { 0 < length loans.now }
     ensures { result.0 ≡ shift_in loans.now % 256 }
 {
-    let header = Header::read(loans[0]);
-    header.present()
+    Header::read(loans[0]).present()
 }
 
-// 1 for a loan of the key, else 0.
-fn counted(w: u32, key: u32) -> u32
-    ensures { (result ≤ 1) × (result ≡ cond (eqb (key_of w) key) 1 0) }
-{
-    if loan::key_of(w) == key { 1 } else { 0 }
-}
-
-// How many of the loans are of the key.
-fn count_of(loans: &[u32], key: u32) -> u32
-    requires { length loans.now ≤ most_loans }
+// How many of the loans are of the key. A sum of 32 bits, for four of them fit a vector.
+fn count_of(loans: &[u32; BLOCK], key: u32) -> u32
     ensures { result ≡ length (keep (of_key key) loans.now) }
 {
-    let mut n = 0u32;
-    let mut j = 0;
-    while j < loans.len() {
-        n += counted(loans[j], key);
-        j += 1;
-    }
-    n
+    loans
+        .iter()
+        .map(|w| u32::from(loan::key_of(*w) == key))
+        .sum()
 }
 
-// Puts the loans behind the `m` picked before.
-fn copy(out: &mut [u32], loans: &[u32], m: usize)
+// Puts the loans behind the `m` picked before. Word by word: the library does without memcpy, which `copy_from_slice` calls.
+fn copy(out: &mut [u32], loans: &[u32; BLOCK], m: usize)
     requires { m + length loans.now ≤ length out.old }
     ensures { take (m + length loans.now) out.new ≡ take m out.old ++ loans.now }
 {
-    let mut i = 0;
-    while i < loans.len() {
-        out[m + i] = loans[i];
-        i += 1;
+    for (i, w) in loans.iter().enumerate() {
+        out[m + i] = *w;
     }
 }
 
@@ -74,30 +59,27 @@ fn pick_part(out: &mut [u32], loans: &[u32], m: usize, key: u32) -> usize
     ensures { Appended out.old m loans.now key result out.new }
 {
     let mut m = m;
-    let mut i = 0;
-    while i < loans.len() {
-        let w = loans[i];
-        out[m] = w;
-        m += counted(w, key) as usize;
-        i += 1;
+    for w in loans {
+        out[m] = *w;
+        m += usize::from(loan::key_of(*w) == key);
     }
     m
 }
 
 // The same. Where no loan is of the key, or each is, a count of all at once tells so, and they are passed over or copied as they are.
-fn pick_block(out: &mut [u32], loans: &[u32], m: usize, key: u32) -> usize
-    requires { (m + length loans.now ≤ length out.old) × (length loans.now ≤ most_loans) }
+fn pick_block(out: &mut [u32], loans: &[u32; BLOCK], m: usize, key: u32) -> usize
+    requires { m + length loans.now ≤ length out.old }
     ensures { Appended out.old m loans.now key result out.new }
 {
     let n = count_of(loans, key) as usize;
     if n == 0 {
         return m;
     }
-    if n < loans.len() {
+    if n < BLOCK {
         return pick_part(out, loans, m, key);
     }
     copy(out, loans, m);
-    m + loans.len()
+    m + BLOCK
 }
 
 // The same for many loans, 16 at a time.
@@ -105,20 +87,12 @@ fn pick_run(out: &mut [u32], loans: &[u32], m: usize, key: u32) -> usize
     requires { m + length loans.now ≤ length out.old }
     ensures { Appended out.old m loans.now key result out.new }
 {
+    let (blocks, rest) = loans.as_chunks::<BLOCK>();
     let mut m = m;
-    let mut i = 0;
-    while BLOCK <= loans.len() - i {
-        m = pick_block(out, &loans[i..i + BLOCK], m, key);
-        i += BLOCK;
+    for block in blocks {
+        m = pick_block(out, block, m, key);
     }
-    pick_part(out, &loans[i..], m, key)
-}
-
-// The greater of two places.
-fn later(a: usize, b: usize) -> usize
-    ensures { result ≡ max a b }
-{
-    if a < b { b } else { a }
+    pick_part(out, rest, m, key)
 }
 
 // The loans of the key that carry at that shift, in their order, to the front of `out`, and their number. Of rising loans the open-ended
@@ -130,7 +104,7 @@ fn carrying(out: &mut [u32], loans: &[u32], key: u32, shift: Shift) -> usize
 {
     let dated = halving::below(loans, loan::DATED);
     let current = halving::below(loans, loan::least(shift));
-    let from = later(dated, current);
+    let from = dated.max(current);
     let m = pick_run(out, &loans[..dated], 0, key);
     pick_run(out, &loans[from..], m, key)
 }

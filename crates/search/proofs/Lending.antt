@@ -1,22 +1,22 @@
 -- What one person is lent. Of the loans to a person the greatest depth for each lender is enough: a lender's entry passes on the most by
 -- the deepest of its loans (`passed-next`), so a person's next entry is known without the rest of the round.
 use mathlib.Core.Path.{◌≡◌, refl, sym, ap, ◌∙◌}
-use mathlib.Core.Bool.{Bool, true, false, not, ◌&&◌, cond, and-false, false≢true}
-use mathlib.Core.List.{List}
+use mathlib.Core.Bool.{Bool, true, false, not, ◌&&◌, cond, and-false, and_assoc, and_comm, false≢true}
+use mathlib.Core.List.{List, [], ◌∷◌}
 use mathlib.Core.Logic.{by_cases}
-use Prim.Native.Nat.{ℕ, ◌+◌, ◌-◌, ◌≤◌, ◌<◌, min, max}
+use Prim.Native.Nat.{ℕ, zero, suc, ◌+◌, ◌-◌, ◌≤◌, ◌<◌, min, max}
 use native.Mathlib.Omega.{arith}
 use native.Mathlib.Decide.{dec_lt, ℕ_discrete}
 use borrow.Author.Tests.{eqb-true, eq-eqb, ne_eqb}
 use lib.Dec.{eqb}
 use lib.ListN.{length, get_or, set, take, drop, length-drop}
 use lib.Seq.{get_or-set_same, get_or-set_other, get_or-take, get_or-drop, length-take-le}
-use Rattle.bits.specs.Sets.{all_below, most, first_at}
+use Rattle.bits.specs.Sets.{all, all_below, most, first_at}
 use Rattle.delegation.specs.Loans.{lender, borrower, loan_depth}
 use Rattle.delegation.specs.Search.{arrive, arriving, next_round, round_at, lender_to}
 use Rattle.delegation.proofs.Search.{arrive_here, arrive_else}
 use Rattle.bits.proofs.Sets.{fst, snd}
-use Rattle.bits.proofs.Indexed.{get_d_tabulate, most_above, first-most, below_elim}
+use Rattle.bits.proofs.Indexed.{get_d_tabulate, most_above, first-most, below_elim, below_none}
 use Rattle.search.specs.Lending.{lending, lent_to, passed_on, is_to_other, ToOthers}
 use Rattle.search.proofs.Rounds.{most_more, most_le, round_more}
 use Rattle.search.proofs.Settling.{unchanged}
@@ -45,39 +45,49 @@ module _ (ls : List ℕ) (q p i : ℕ) where
       go true e h = (eqb-true _ _ (fst (eqb (lender w) p) _ e), eqb-true _ _ (snd (eqb (lender w) p) _ e), refl)
       go false e h = absurd (omega arith)
 
+-- a flag as a number
+pub no_flag : (b : Bool) (n : ℕ) → n ≡ cond b 1 0 → eqb n 0 ≡ not b
+no_flag true n e = ap (λ (k : ℕ). eqb k 0) e
+no_flag false n e = ap (λ (k : ℕ). eqb k 0) e
+
+-- a test of all, place by place
+below-first : (n : ℕ) (f : ℕ → Bool) → all_below (suc n) f ≡ f 0 && all_below n (λ (j : ℕ). f (suc j))
+unfolding all_below
+below-first zero f = refl
+below-first (suc n) f =
+    let rest : Bool = all_below n (λ (j : ℕ). f (suc j)) in
+    ap (λ b. f (suc n) && b) (below-first n f)
+    ∙ sym (and_assoc (f (suc n)) (f 0) rest) ∙ ap (λ b. b && rest) (and_comm (f (suc n)) (f 0)) ∙ and_assoc (f 0) (f (suc n)) rest
+
+pub all-below : (p : ℕ → Bool) (xs : List ℕ) → all p xs ≡ all_below (length xs) (λ (j : ℕ). p (get_or xs j 0))
+unfolding all
+all-below p [] = sym (below_none _)
+all-below p (x ∷ xs) = ap (λ b. p x && b) (all-below p xs) ∙ sym (below-first (length xs) (λ (j : ℕ). p (get_or (x ∷ xs) j 0)))
+
 -- a loan to another passes nothing on
 pub arrive_other : (v w q : ℕ) → is_to_other q w ≡ true → arrive v w q ≡ 0
 arrive_other v w q t = arrive_else v w q (λ e. false≢true (sym (ap not (eq-eqb (borrower w) q e)) ∙ t))
 
--- a flag that is 0 where a loan is to another tells which of two it is
-pub limit_none : (r x : ℕ) (b : Bool) → eqb r 0 ≡ not b → r ≡ 0 → cond b x 0 ≡ 0
-limit_none r x true e z = absurd (false≢true (sym e ∙ eq-eqb r 0 z))
-limit_none r x false e z = refl
-
-pub limit_some : (r x : ℕ) (b : Bool) → eqb r 0 ≡ not b → (r ≡ 0 → ⊥) → cond b x 0 ≡ x
-limit_some r x true e ne = refl
-limit_some r x false e ne = absurd (ne (eqb-true r 0 e))
-
 -- the 16 before place i, which are all to others by their test r
 pub others_before : (ls : List ℕ) (q i n r : ℕ) → 16 ≤ i → i ≤ length ls
-    → eqb r 0 ≡ all_below (length (take (i - (i - 16)) (drop (i - 16) ls))) (λ (j : ℕ). is_to_other q (get_or (take (i - (i - 16)) (drop (i - 16) ls)) j 0))
+    → eqb r 0 ≡ all_below (length (drop (i - 16) (take i ls))) (λ (j : ℕ). is_to_other q (get_or (drop (i - 16) (take i ls)) j 0))
     → r ≡ 0 → ToOthers ls q i n → ToOthers ls q (i - 16) n
 others_before ls q i n r h inside e z others j l k =
     by_cases (dec_lt j i)
-    (λ d. let part : List ℕ = take (i - (i - 16)) (drop (i - 16) ls) in
-    let m : length part ≡ 16 = length-take-le (i - (i - 16)) (drop (i - 16) ls) (simp length-drop (omega arith)) ∙ omega arith in
+    (λ d. let part : List ℕ = drop (i - 16) (take i ls) in
+    let m : length part ≡ 16 = length-drop (i - 16) (take i ls) ∙ omega (arith, length-take-le i ls inside) in
     let t = below_elim (length part) (λ (j : ℕ). is_to_other q (get_or part j 0)) (sym e ∙ eq-eqb r 0 z) (j - (i - 16)) (omega arith) in
-    let p : get_or part (j - (i - 16)) 0 ≡ get_or ls j 0 =
-    get_or-take (i - (i - 16)) (drop (i - 16) ls) (j - (i - 16)) 0 (omega arith) ∙ get_or-drop (i - 16) ls (j - (i - 16)) 0
-    ∙ ap (λ (n : ℕ). get_or ls n 0) (let o : i - 16 + (j - (i - 16)) ≡ j = omega arith in o) in
+    let o : i - 16 + (j - (i - 16)) ≡ j = omega arith in
+    let p : get_or part (j - (i - 16)) 0 ≡ get_or ls j 0
+    = get_or-drop (i - 16) (take i ls) (j - (i - 16)) 0 ∙ ap (λ (n : ℕ). get_or (take i ls) n 0) o ∙ get_or-take i ls j 0 d in
     ap (is_to_other q) (sym p) ∙ t)
     (λ d. others j (omega arith) k)
 
--- one more, by its flag r
-pub other_before : (ls : List ℕ) (q i n r : ℕ) → 0 < i → eqb r 0 ≡ is_to_other q (get_or ls (i - 1) 0) → r ≡ 0 → ToOthers ls q i n → ToOthers ls q (i - 1) n
-other_before ls q i n r h e z others j l k =
+-- one more
+pub other_before : (ls : List ℕ) (q i n : ℕ) → 0 < i → is_to_other q (get_or ls (i - 1) 0) ≡ true → ToOthers ls q i n → ToOthers ls q (i - 1) n
+other_before ls q i n h e others j l k =
     by_cases (dec_lt j i)
-    (λ d. let o : j ≡ i - 1 = omega arith in ap (λ (m : ℕ). is_to_other q (get_or ls m 0)) o ∙ sym e ∙ eq-eqb r 0 z)
+    (λ d. let o : j ≡ i - 1 = omega arith in ap (λ (m : ℕ). is_to_other q (get_or ls m 0)) o ∙ e)
     (λ d. others j (omega arith) k)
 
 -- ---- laying out: one loan more, and loans to others

@@ -1,7 +1,8 @@
 -- Laws of the loops that make the rounds and read a person's greatest entry off them.
 use mathlib.Core.Path.{◌≡◌, sym, ap, ◌∙◌}
 use mathlib.Core.Bool.{cond}
-use mathlib.Core.List.{List}
+use mathlib.Core.List.{List, [], ◌∷◌, ◌++◌}
+use Rattle.std.specs.List.{fold}
 use mathlib.Core.Logic.{by_cases}
 use Prim.Native.Nat.{ℕ, zero, suc, ◌+◌, ◌-◌, ◌≤◌, ◌<◌, max}
 use native.Mathlib.Omega.{arith}
@@ -11,8 +12,8 @@ use native.Mathlib.Decide.{ℕ_discrete}
 use lib.Dec.{ltb}
 use borrow.Author.Count.{below_more}
 use lib.Bits.{bit_or, or_add_and, and_le_l, and_le_r}
-use lib.ListN.{length, get_or, set, take, drop, length-drop}
-use lib.Seq.{get_or-set_same, get_or-set_other, get_or-take, get_or-drop, length-take-le}
+use lib.ListN.{length, get_or, set, take, drop, length-drop, length-append, get_or-append}
+use lib.Seq.{get_or-append-add, get_or-set_same, get_or-set_other, get_or-take, get_or-drop, length-take-le}
 use Rattle.bits.specs.Sets.{most, first_at}
 use Rattle.delegation.specs.Loans.{lender, borrower}
 use Rattle.delegation.specs.Search.{gain, arrive, arriving, next_round, round_at}
@@ -118,3 +119,24 @@ pub best_more : (f : ℕ → ℕ) (k m at n to : ℕ) → m ≡ most f k → at 
     → (n ≡ most f (k + 1)) × (to ≡ first_at f (k + 1))
 best_more f k m at n to e e' h h' =
     (h ∙ (λ j. max (e j) (f k)) ∙ sym (most_more f k), h' ∙ (λ j. cond (ltb (e j) (f k)) k (e' j)) ∙ sym (first_more f k))
+
+-- the greatest of all, from the front
+most_first : (f : ℕ → ℕ) (n : ℕ) → most f (suc n) ≡ max (f 0) (most (λ (i : ℕ). f (suc i)) n)
+unfolding most
+most_first f zero = omega arith
+most_first f (suc n) = let m = most_first f n in omega arith
+
+pub fold-most : (a : ℕ) (xs : List ℕ) → fold (λ b x. max b x) a xs ≡ max a (most (λ (p : ℕ). get_or xs p 0) (length xs))
+unfolding most
+fold-most a [] = omega arith
+fold-most a (x ∷ xs) = let f = fold-most (max a x) xs in let m = most_first (λ (p : ℕ). get_or (x ∷ xs) p 0) (length xs) in omega (arith, f, m)
+
+-- one loan more behind the others
+pub above-push : (ls round : List ℕ) (w all r : ℕ) → r ≡ bit_or all (get_or round (lender w) 0) → NoneAbove all ls round
+    → NoneAbove r (ls ++ (w ∷ [])) round
+above-push ls round w all r e n j l =
+    let n1 : length (ls ++ (w ∷ [])) ≡ length ls + 1 = simp length-append (omega arith) in
+    let here : get_or (ls ++ (w ∷ [])) (length ls) 0 ≡ w
+    = ap (λ (m : ℕ). get_or (ls ++ (w ∷ [])) m 0) (sym (add-zero (length ls))) ∙ get_or-append-add ls (w ∷ []) 0 0 in
+    rw e (above_more (ls ++ (w ∷ [])) round (length ls) (lender w) all (ap lender (sym here))
+    (λ k h. rw (get_or-append ls (w ∷ []) 0 k h) (n k h)) j (omega arith))

@@ -25,13 +25,13 @@ pub pick_run-requires : goal.pick_run-requires
 pick_run-requires c =
     let n = length-take-le c.below-dated.result c.args.loans.now c.below-dated.ensures.within in
     simp (length-take, length-drop)
-    (omega (arith, n, c.below-dated.ensures.within, c.below-current.ensures.within, c.later-from.ensures, c.pick_run-m.ensures.count, c.requires.0))
+    (omega (arith, n, c.below-dated.ensures.within, c.below-current.ensures.within, c.max-from.ensures, c.pick_run-m.ensures.count, c.requires.0))
 
 pub returns : goal.returns
 returns c =
     let below = subst (λ (x : ℕ). Below c.args.loans.now x c.below-current.result) c.least.ensures c.below-current.ensures in
     let rest = subst (λ (n : ℕ). Appended c.pick_run-m.new.out c.pick_run-m.result (take (length c.args.loans.now - n) (drop n c.args.loans.now)) c.args.key c.pick_run.result c.pick_run.new.out)
-    c.later-from.ensures c.pick_run.ensures in
+    c.max-from.ensures c.pick_run.ensures in
     picked_runs c.args.loans.now c.args.shift.0 c.args.key c.below-dated.result c.below-current.result c.requires.2
     (λ i. (c.shared_slice_known-1.given i).fits) c.below-dated.ensures below c.args.out.now c.pick_run-m.new.out c.pick_run.new.out
     c.pick_run-m.result c.pick_run.result c.pick_run-m.ensures rest

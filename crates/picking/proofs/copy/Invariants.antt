@@ -2,14 +2,11 @@
 use mathlib.Core.Path.{◌≡◌}
 use mathlib.Core.Bool.{true}
 use mathlib.Core.List.{◌++◌}
-use Prim.Native.Nat.{◌+◌, ◌-◌, ◌≤◌}
+use Prim.Native.Nat.{◌+◌}
 use lib.ListN.{length, take}
 use Rattle.bits.specs.Sets.{keep}
 use Rattle.picking.proofs.copy.Given as goal
 
 abbrev pub invariant-loop-i : goal.invariant-loop-i
 invariant-loop-i l =
-    (l.i ≤ length l.loans) × (length l.out ≡ length l.initial.out) × (take (l.m + l.i) l.out ≡ take l.m l.initial.out ++ keep (λ w. true) (take l.i l.loans))
-
-abbrev pub decreases-loop-i : goal.decreases-loop-i
-decreases-loop-i l = length l.loans - l.i
+    (length l.out ≡ length l.initial.out) × (take (l.m + l.i) l.out ≡ take l.m l.initial.out ++ keep (λ w. true) (take l.i l.loans))

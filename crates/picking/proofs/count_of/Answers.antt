@@ -1,24 +1,23 @@
--- After j turns n counts those of the key among the first j loans (`count_more`); at the end these are all.
-use borrow.Author.Rules.{rules}
+-- A word counts 1 where its key is the key, else 0; the sum of these is how many there are (`sum-keep`).
+use Rattle.std.proofs.Common.{rules, cond}
 use native.Mathlib.Omega.{arith}
-use mathlib.Core.Path.{refl, ap, ◌∙◌}
-use mathlib.Core.List.{List}
-use Prim.Native.Nat.{ℕ}
-use lib.ListN.{length}
-use lib.Seq.{take_all}
-use Rattle.bits.specs.Sets.{keep}
+use mathlib.Core.Path.{◌∙◌, refl}
+use Rattle.std.proofs.lemmas.Iterator.{YieldsList-from_slice, YieldsList-from_map}
+use Rattle.std.proofs.lemmas.Iterator.Consumers.{sum_by_from_yields_List, fits_by_from_yields_list}
 use Rattle.picking.specs.Runs.{of_key}
-use Rattle.picking.proofs.Picking.{count_more}
+use Rattle.picking.proofs.Picking.{sum-keep, keep_le}
 use Rattle.picking.proofs.count_of.Goals as goal
 
-pub loop-j-init : goal.loop-j-init
-unfolding keep
-loop-j-init c = (search rules, search rules, refl)
-
-pub loop-j-preserved : goal.loop-j-preserved
-loop-j-preserved c =
-    (search rules, search rules, count_more (of_key c.args.key) c.args.loans.now c.loop-j.j c.loop-j.n c.counted-n.result (omega arith) c.loop-j.invariant.2 c.counted-n.ensures.1)
+pub sum-requires-clause-fits : goal.sum-requires-clause-fits
+sum-requires-clause-fits c =
+    let p = of_key c.args.key in
+    fits_by_from_yields_list (λ w. cond (p w) 1 0) c.args.loans.now c.map.result _
+    (YieldsList-from_map _ _ (YieldsList-from_slice c.args.loans.now (search rules)) refl (λ x r q k. search rules))
+    (omega (arith, sum-keep p c.args.loans.now, keep_le p c.args.loans.now))
 
 pub returns : goal.returns
 returns c =
-    c.loop-j.invariant.2 ∙ ap (λ (x : List ℕ). length (keep (of_key c.args.key) x)) (take_all c.loop-j.j c.args.loans.now (omega arith))
+    let p = of_key c.args.key in
+    sum_by_from_yields_List (λ w. cond (p w) 1 0) c.args.loans.now c.map.result _ c.sum.ensures.ran
+    (YieldsList-from_map _ _ (YieldsList-from_slice c.args.loans.now (search rules)) refl (λ x r q k. search rules))
+    ∙ sum-keep p c.args.loans.now

@@ -5,4 +5,4 @@ use Rattle.picking.proofs.in_use.Goals as goal
 
 pub returns : goal.returns
 returns c =
-    ap (λ (h : Header). h.count) (c.read-header.ensures ∙ sym (header_read c.args.loans.now))
+    c.from.ensures ∙ ap (λ (h : Header). h.count) (c.read.ensures ∙ sym (header_read c.args.loans.now))

@@ -21,7 +21,7 @@ pub returns : goal.returns
 returns c =
     record {
       count = omega arith;
-      are = c.copy.ensures
+      are = (rw c.told-loans at c.copy.ensures)
           ∙ ap (λ (x : List ℕ). take c.args.m c.args.out.now ++ x)
           (sym (keep-every (of_key c.args.key) c.args.loans.now (omega (arith, c.count_of-n.ensures))));
     }

@@ -12,23 +12,22 @@ use Rattle.picking.specs.Runs.{of_key}
 use Rattle.picking.proofs.Picking.{pick_more}
 use Rattle.picking.proofs.pick_part.Goals as goal
 
-pub loop-i-init : goal.loop-i-init
+pub loop-w-init : goal.loop-w-init
 unfolding keep
-loop-i-init c = (search rules, refl, search rules, sym (append-nil _))
+loop-w-init c = (refl, search rules, sym (append-nil _))
 
-pub loop-i-preserved : goal.loop-i-preserved
-loop-i-preserved c = (
+pub loop-w-preserved : goal.loop-w-preserved
+loop-w-preserved c = (
+  simp length-set c.loop-w.invariant.0,
   search rules,
-  simp length-set c.loop-i.invariant.1,
-  omega (arith, c.counted.ensures.0, c.loop-i.invariant.2),
-  pick_more (of_key c.args.key) c.args.loans.now c.loop-i.i (omega arith) (take c.args.m c.args.out.now) c.loop-i.out c.loop-i.m
-      (omega (arith, c.requires, c.loop-i.invariant.1, c.loop-i.invariant.2)) c.loop-i.invariant.3 c.counted.result c.counted.ensures.1,
+  pick_more (of_key c.args.key) c.args.loans.now c.loop-w.w-index (omega arith) (take c.args.m c.args.out.now) c.loop-w.out c.loop-w.m
+      (omega (arith, c.requires, c.loop-w.invariant.0, c.loop-w.invariant.1)) c.loop-w.invariant.2 _ (search rules),
 )
 
 pub returns : goal.returns
 returns c =
-    let e = take_all c.loop-i.i c.args.loans.now (omega arith) in
+    let e = take_all c.loop-w.w-index c.args.loans.now (omega arith) in
     record {
-      count = omega (arith, c.loop-i.invariant.2, c.loop-i.invariant.0);
-      are = c.loop-i.invariant.3 ∙ ap (λ (x : List ℕ). take c.args.m c.args.out.now ++ keep (of_key c.args.key) x) e;
+      count = omega (arith, c.loop-w.invariant.1);
+      are = c.loop-w.invariant.2 ∙ ap (λ (x : List ℕ). take c.args.m c.args.out.now ++ keep (of_key c.args.key) x) e;
     }

@@ -6,4 +6,4 @@ use Rattle.picking.proofs.present.Goals as goal
 
 pub returns : goal.returns
 returns c =
-    c.present.ensures ∙ ap (λ (h : Header). h.shift % 256) (c.read-header.ensures ∙ sym (header_read c.args.loans.now))
+    c.present.ensures ∙ ap (λ (h : Header). h.shift % 256) (c.read.ensures ∙ sym (header_read c.args.loans.now))

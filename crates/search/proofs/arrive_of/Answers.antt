@@ -2,19 +2,16 @@
 -- (`arrive_else`).
 use Rattle.delegation.specs.Search.{gain}
 use Rattle.delegation.proofs.Search.{arrive_here, arrive_else}
+use borrow.Author.Tests.{eqb-true, eqb-false}
 use mathlib.Core.Path.{sym, ◌∙◌}
 use lib.ListN.{get_or}
 use Rattle.search.proofs.arrive_of.Goals as goal
 
-pub returns-then-number : goal.returns-then-number
-returns-then-number c =
+pub returns-then-is_to : goal.returns-then-is_to
+returns-then-is_to c =
     let p = c.number-p.ensures ∙ c.lender.ensures in
-    let q = sym (c.number.ensures
-    ∙ c.borrower.ensures) ∙ c.if-number.true
-    ∙ c.number-2.ensures in
-    c.gain_of.ensures ∙ (λ j. gain (get_or c.args.round.now (p j) 0) c.args.w) ∙ sym (arrive_here _ _ _ q)
+    c.gain_of.ensures ∙ (λ j. gain (get_or c.args.round.now (p j) 0) c.args.w)
+    ∙ sym (arrive_here _ _ _ (eqb-true _ _ (sym c.is_to.ensures ∙ c.if-is_to.true)))
 
-pub returns-else-number : goal.returns-else-number
-returns-else-number c =
-    sym (arrive_else _ _ _ (λ e. c.if-number.false
-    (c.number.ensures ∙ c.borrower.ensures ∙ e ∙ sym c.number-2.ensures)))
+pub returns-else-is_to : goal.returns-else-is_to
+returns-else-is_to c = sym (arrive_else _ _ _ (eqb-false _ _ (sym c.is_to.ensures ∙ c.if-is_to.false)))

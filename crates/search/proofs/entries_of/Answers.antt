@@ -1,17 +1,14 @@
--- Of what is ORed so far no lender's entry among the first j loans is above it (`above_more`); at the end these are all.
-use borrow.Author.Rules.{rules}
+-- Of what is ORed no lender's entry among the loans so far is above it (`above-push`).
+use Rattle.std.proofs.Common.{rules, subst}
 use native.Mathlib.Omega.{arith}
-use mathlib.Core.Path.{◌∙◌}
-use Rattle.search.proofs.Rounds.{above_more}
+use Rattle.std.proofs.lemmas.Fn.{fold_over, slice_gives, fronts}
+use Rattle.search.specs.Raised.{NoneAbove}
+use Rattle.search.proofs.Rounds.{above-push}
 use Rattle.search.proofs.entries_of.Goals as goal
-
-pub loop-j-init : goal.loop-j-init
-loop-j-init c = (search rules, λ k h. absurd (omega arith))
-
-pub loop-j-preserved : goal.loop-j-preserved
-loop-j-preserved c =
-    (search rules, above_more c.args.ls.now c.args.round.now c.loop-j.j c.number-p.result c.loop-j.all (c.number-p.ensures ∙ c.lender.ensures) c.loop-j.invariant.1)
 
 pub returns : goal.returns
 returns c =
-    λ j h. c.loop-j.invariant.1 j (omega arith)
+    subst (λ ls. NoneAbove c.fold.result ls c.args.round.now) c.iter.ensures.rest
+    (fold_over fronts (λ y. y.now) _ (λ ys a. NoneAbove a ys c.args.round.now) _
+    (λ ys a x b f j k. (above-push ys c.args.round.now x.now a b (search rules) j, search rules))
+    _ _ _ _ (slice_gives c.iter.result) (λ k h. absurd (omega arith)) c.fold.ensures.ran)

@@ -1,23 +1,17 @@
--- After p turns m is the greatest of the first p entries (`most_more`); at the end p is 64.
-use Rattle.bits.specs.Sets.{most}
-use Rattle.search.proofs.Rounds.{most_more}
-use borrow.Author.Rules.{rules}
+-- The greatest entry, from the front, is the greatest of all (`fold-most`).
+use Rattle.std.proofs.Common.{rules}
 use native.Mathlib.Omega.{arith}
-use mathlib.Core.Path.{◌≡◌, refl, ap, ◌∙◌}
-use Prim.Native.Nat.{ℕ}
+use mathlib.Core.Path.{◌≡◌, ap}
+use Prim.Native.Nat.{ℕ, max}
 use lib.ListN.{get_or}
+use Rattle.bits.specs.Sets.{most}
+use Rattle.std.specs.List.{fold}
+use Rattle.search.proofs.Rounds.{fold-most}
 use Rattle.search.proofs.greatest.Goals as goal
-
-pub loop-p-init : goal.loop-p-init
-unfolding most
-loop-p-init c = (search rules, refl)
-
-pub loop-p-preserved : goal.loop-p-preserved
-loop-p-preserved c =
-    let m = most_more (λ (q : ℕ). get_or c.args.round.now q 0) c.loop-p.p in
-    (search rules, omega arith)
 
 pub returns : goal.returns
 returns c =
-    let e : c.loop-p.p ≡ 64 = omega arith in
-    c.loop-p.invariant.1 ∙ ap (most (λ (q : ℕ). get_or c.args.round.now q 0)) e
+    let f : c.fold.result ≡ fold (λ a x. max a x) 0 c.args.round.now = search rules in
+    let m = fold-most 0 c.args.round.now in
+    let e = ap (most (λ (p : ℕ). get_or c.args.round.now p 0)) c.told-round in
+    omega (arith, f, m, e)

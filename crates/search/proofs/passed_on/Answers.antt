@@ -1,4 +1,4 @@
--- After p turns m is the greatest that the first p lenders pass on (`most_more`); at the end p is 64.
+-- After p turns `most` is the greatest that the first p lenders pass on (`most_more`); at the end p is 64.
 use borrow.Author.Rules.{rules}
 use native.Mathlib.Omega.{arith}
 use mathlib.Core.Path.{◌≡◌, refl, ap, ◌∙◌}
@@ -11,15 +11,15 @@ use Rattle.search.proofs.passed_on.Goals as goal
 
 pub loop-p-init : goal.loop-p-init
 unfolding most
-loop-p-init c = (search rules, refl)
+loop-p-init c = refl
 
 pub loop-p-preserved : goal.loop-p-preserved
 loop-p-preserved c =
     let m = most_more (λ (q : ℕ). min (get_or c.args.round.now q 0 - 1) (get_or c.args.row.now q 0)) c.loop-p.p in
-    (search rules, omega arith)
+    omega arith
 
 pub returns : goal.returns
 unfolding passed_on
 returns c =
     let e : c.loop-p.p ≡ 64 = omega arith in
-    c.loop-p.invariant.1 ∙ ap (most (λ (q : ℕ). min (get_or c.args.round.now q 0 - 1) (get_or c.args.row.now q 0))) e
+    c.loop-p.invariant ∙ ap (most (λ (q : ℕ). min (get_or c.args.round.now q 0 - 1) (get_or c.args.row.now q 0))) e

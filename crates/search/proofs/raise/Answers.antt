@@ -17,5 +17,5 @@ returns-then-v-le1 c =
 pub returns : goal.returns
 returns c =
     let q = c.number-q.ensures ∙ c.borrower.ensures in
-    ap (set c.args.next.now c.number-q.result) c.larger.ensures
+    ap (set c.args.next.now c.number-q.result) c.max.ensures
     ∙ (λ j. set c.args.next.now (q j) (max (get_or c.args.next.now (q j) 0) (c.gain_of-gained.ensures j)))

@@ -10,23 +10,22 @@ use Rattle.delegation.specs.Search.{arriving}
 use Rattle.search.proofs.Rounds.{raise_more}
 use Rattle.search.proofs.raise_each.Goals as goal
 
-pub loop-i-init : goal.loop-i-init
+pub loop-w-init : goal.loop-w-init
 unfolding most
-loop-i-init c = (search rules, refl, λ q h. omega arith)
+loop-w-init c = (refl, λ q h. omega arith)
 
-pub loop-i-preserved : goal.loop-i-preserved
-loop-i-preserved c =
+pub loop-w-preserved : goal.loop-w-preserved
+loop-w-preserved c =
     let p = c.number-p.ensures ∙ c.lender.ensures in (
-      search rules,
-      ap length c.raise.ensures ∙ simp length-set c.loop-i.invariant.1,
-      rw c.raise.ensures (raise_more c.args.ls.now c.args.round.now c.loop-i.next (λ (q : ℕ). get_or c.args.next.now q 0) c.loop-i.i
-          c.number-p.result p (c.loop-i.invariant.1 ∙ c.requires) c.loop-i.invariant.2),
+      ap length c.raise.ensures ∙ simp length-set c.loop-w.invariant.0,
+      rw c.raise.ensures (raise_more c.args.ls.now c.args.round.now c.loop-w.next (λ (q : ℕ). get_or c.args.next.now q 0) c.loop-w.w-index
+          c.number-p.result p (c.loop-w.invariant.0 ∙ c.told-next) c.loop-w.invariant.1),
     )
 
 pub returns : goal.returns
 returns c =
-    let e : c.loop-i.i ≡ length c.args.ls.now = omega arith in
+    let e : c.loop-w.w-index ≡ length c.args.ls.now = omega arith in
     record {
-      long = c.loop-i.invariant.1;
-      entries = λ q h. c.loop-i.invariant.2 q h ∙ ap (λ (n : ℕ). max (get_or c.args.next.now q 0) (most (arriving c.args.ls.now c.args.round.now q) n)) e;
+      long = c.loop-w.invariant.0;
+      entries = λ q h. c.loop-w.invariant.1 q h ∙ ap (λ (n : ℕ). max (get_or c.args.next.now q 0) (most (arriving c.args.ls.now c.args.round.now q) n)) e;
     }

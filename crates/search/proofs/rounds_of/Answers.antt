@@ -23,7 +23,6 @@ pub loop-k-init : goal.loop-k-init
 unfolding round_at most
 loop-k-init c =
     let f : List ℕ = c.args.first in (
-      search rules,
       refl,
       λ j h. let e : j ≡ 0 = omega arith in rw e refl,
       λ j h l. get_or-replicate 8 j f [] l,
@@ -33,49 +32,48 @@ loop-k-init c =
 pub returns-then-left-top : goal.returns-then-left-top
 returns-then-left-top c =
     let round : List ℕ = round_at c.args.first c.args.ls.now c.loop-k.k in
-    let g = c.greatest.ensures ∙ (λ j. most (λ (p : ℕ). get_or (c.loop-k.invariant.2 c.loop-k.k (omega arith) j) p 0) 64) in
+    let g = c.greatest.ensures ∙ (λ j. most (λ (p : ℕ). get_or (c.loop-k.invariant.1 c.loop-k.k (omega arith) j) p 0) 64) in
     subst (λ (p : ℕ). Settled (tabulate 8 (round_at c.args.first c.args.ls.now)) c.loop-k.rounds p) c.number-place.ensures
     (settled_early c.args.first c.args.ls.now c.loop-k.k c.loop-k.rounds c.number-place.result c.loop-k.top (omega arith) (omega arith)
-    (λ j h. c.loop-k.invariant.2 j (omega arith)) (ap (λ (x : List ℕ). get_or x c.number-place.result 0) (c.loop-k.invariant.2 c.loop-k.k (omega arith))) c.loop-k.invariant.3 c.loop-k.invariant.4
+    (λ j h. c.loop-k.invariant.1 j (omega arith)) (ap (λ (x : List ℕ). get_or x c.number-place.result 0) (c.loop-k.invariant.1 c.loop-k.k (omega arith))) c.loop-k.invariant.2 c.loop-k.invariant.3
     (most (λ (p : ℕ). get_or round p 0) 64) (λ p h. most_above (λ (p : ℕ). get_or round p 0) 64 p h)
-    (omega (arith, g, c.left_of-left.ensures, c.if-left-top.true)))
+    (omega (arith, g, c.saturating_sub-left.ensures, c.if-left-top.true)))
 
-pub returns-then-left_of-top : goal.returns-then-left_of-top
-returns-then-left_of-top c =
+pub returns-then-saturating_sub-top : goal.returns-then-saturating_sub-top
+returns-then-saturating_sub-top c =
     let k = c.loop-k.k + 1 in
     let round : List ℕ = round_at c.args.first c.args.ls.now c.loop-k.k in
     let last : List ℕ = set (get_or c.loop-k.rounds k []) c.number-place.result c.passed_on-entry.result in
     let e = next_entry c.args.first c.args.ls.now c.lent_to-row.result (get_or c.loop-k.rounds c.loop-k.k []) c.loop-k.k c.number-place.result c.passed_on-entry.result (omega arith)
-    (c.lent_to-row.ensures ∙ ap (lent_to c.args.ls.now) (sym c.number-place.ensures)) (c.loop-k.invariant.2 c.loop-k.k (omega arith)) c.passed_on-entry.ensures in
-    let long : length (get_or c.loop-k.rounds k []) ≡ 64 = ap (λ (x : List ℕ). length x) (c.loop-k.invariant.3 k (omega arith) (omega arith)) ∙ search rules in
-    let g = c.greatest.ensures ∙ (λ j. most (λ (p : ℕ). get_or (c.loop-k.invariant.2 c.loop-k.k (omega arith) j) p 0) 64) in
+    (c.lent_to-row.ensures ∙ ap (lent_to c.args.ls.now) (sym c.number-place.ensures)) (c.loop-k.invariant.1 c.loop-k.k (omega arith)) c.passed_on-entry.ensures in
+    let long : length (get_or c.loop-k.rounds k []) ≡ 64 = ap (λ (x : List ℕ). length x) (c.loop-k.invariant.2 k (omega arith) (omega arith)) ∙ search rules in
+    let g = c.greatest.ensures ∙ (λ j. most (λ (p : ℕ). get_or (c.loop-k.invariant.1 c.loop-k.k (omega arith) j) p 0) 64) in
     let b = next_le c.args.ls.now round (most (λ (p : ℕ). get_or round p 0) 64) (λ p h. most_above (λ (p : ℕ). get_or round p 0) 64 p h) in
     subst (λ (p : ℕ). Settled (tabulate 8 (round_at c.args.first c.args.ls.now)) (set c.loop-k.rounds k last) p) c.number-place.ensures
-    (settled_early c.args.first c.args.ls.now k (set c.loop-k.rounds k last) c.number-place.result c.larger-top.result (omega arith) (omega arith)
-    (λ j h. get_or-set_other c.loop-k.rounds k j last [] (omega arith) ∙ c.loop-k.invariant.2 j (omega arith))
+    (settled_early c.args.first c.args.ls.now k (set c.loop-k.rounds k last) c.number-place.result c.max-top.result (omega arith) (omega arith)
+    (λ j h. get_or-set_other c.loop-k.rounds k j last [] (omega arith) ∙ c.loop-k.invariant.1 j (omega arith))
     (ap (λ (x : List ℕ). get_or x c.number-place.result 0) (get_or-set_same c.loop-k.rounds k last [] (omega arith))
     ∙ get_or-set_same (get_or c.loop-k.rounds k []) c.number-place.result c.passed_on-entry.result 0 (omega arith) ∙ e)
-    (λ j h d. get_or-set_other c.loop-k.rounds k j last [] (omega arith) ∙ c.loop-k.invariant.3 j (omega arith) d)
-    (c.larger-top.ensures ∙ (λ j. max (c.loop-k.invariant.4 j) (e j)) ∙ sym (most_more _ k))
+    (λ j h d. get_or-set_other c.loop-k.rounds k j last [] (omega arith) ∙ c.loop-k.invariant.2 j (omega arith) d)
+    (c.max-top.ensures ∙ (λ j. max (c.loop-k.invariant.3 j) (e j)) ∙ sym (most_more _ k))
     (most (λ (p : ℕ). get_or round p 0) 64 - 1) (λ p h. rw (round_more c.args.first c.args.ls.now c.loop-k.k) (b p h))
-    (omega (arith, g, c.left_of-left.ensures, c.left_of.ensures, c.if-left_of-top.true)))
+    (omega (arith, g, c.saturating_sub-left.ensures, c.saturating_sub.ensures, c.if-saturating_sub-top.true)))
 
 pub loop-k-preserved : goal.loop-k-preserved
 loop-k-preserved c =
     let e : c.next_round.result ≡ round_at c.args.first c.args.ls.now (c.loop-k.k + 1) =
-    c.next_round.ensures ∙ ap (next_round c.args.ls.now) (c.loop-k.invariant.2 c.loop-k.k (omega arith)) ∙ sym (round_more _ _ c.loop-k.k) in
+    c.next_round.ensures ∙ ap (next_round c.args.ls.now) (c.loop-k.invariant.1 c.loop-k.k (omega arith)) ∙ sym (round_more _ _ c.loop-k.k) in
     let v = next_entry c.args.first c.args.ls.now c.lent_to-row.result (get_or c.loop-k.rounds c.loop-k.k []) c.loop-k.k c.number-place.result c.passed_on-entry.result (omega arith)
-    (c.lent_to-row.ensures ∙ ap (lent_to c.args.ls.now) (sym c.number-place.ensures)) (c.loop-k.invariant.2 c.loop-k.k (omega arith)) c.passed_on-entry.ensures in (
-      search rules,
-      simp length-set c.loop-k.invariant.1,
-      fill_more (round_at c.args.first c.args.ls.now) [] c.loop-k.rounds (c.loop-k.k + 1) c.next_round.result (omega arith) e c.loop-k.invariant.2,
-      λ j h d. get_or-set_other c.loop-k.rounds (c.loop-k.k + 1) j c.next_round.result [] (omega arith) ∙ c.loop-k.invariant.3 j (omega arith) d,
-      c.larger-top.ensures ∙ (λ j. max (c.loop-k.invariant.4 j) (v j)) ∙ sym (most_more _ (c.loop-k.k + 1)),
+    (c.lent_to-row.ensures ∙ ap (lent_to c.args.ls.now) (sym c.number-place.ensures)) (c.loop-k.invariant.1 c.loop-k.k (omega arith)) c.passed_on-entry.ensures in (
+      simp length-set c.loop-k.invariant.0,
+      fill_more (round_at c.args.first c.args.ls.now) [] c.loop-k.rounds (c.loop-k.k + 1) c.next_round.result (omega arith) e c.loop-k.invariant.1,
+      λ j h d. get_or-set_other c.loop-k.rounds (c.loop-k.k + 1) j c.next_round.result [] (omega arith) ∙ c.loop-k.invariant.2 j (omega arith) d,
+      c.max-top.ensures ∙ (λ j. max (c.loop-k.invariant.3 j) (v j)) ∙ sym (most_more _ (c.loop-k.k + 1)),
     )
 
 pub returns : goal.returns
 returns c =
     subst (λ (p : ℕ). Settled (tabulate 8 (round_at c.args.first c.args.ls.now)) c.loop-k.rounds p) c.number-place.ensures
     (settled_last c.args.first c.args.ls.now c.loop-k.k c.loop-k.rounds c.number-place.result c.loop-k.top (omega arith) (omega arith)
-    (λ j h. c.loop-k.invariant.2 j (omega arith)) (ap (λ (x : List ℕ). get_or x c.number-place.result 0) (c.loop-k.invariant.2 c.loop-k.k (omega arith))) c.loop-k.invariant.3 c.loop-k.invariant.4
+    (λ j h. c.loop-k.invariant.1 j (omega arith)) (ap (λ (x : List ℕ). get_or x c.number-place.result 0) (c.loop-k.invariant.1 c.loop-k.k (omega arith))) c.loop-k.invariant.2 c.loop-k.invariant.3
     (omega arith))

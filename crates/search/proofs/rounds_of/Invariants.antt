@@ -13,9 +13,6 @@ use Rattle.search.proofs.rounds_of.Given as goal
 -- rounds 0 to k are made, round 0 stands in place of the later ones, and top is the greatest entry of who so far
 abbrev pub invariant-loop-k : goal.invariant-loop-k
 invariant-loop-k l =
-    (l.k ≤ 7) × (length l.rounds ≡ 8) × ((j : ℕ) → j < l.k + 1 → get_or l.rounds j [] ≡ round_at (get_or l.initial.rounds 0 []) l.ls j)
+    (length l.rounds ≡ 8) × ((j : ℕ) → j < l.k + 1 → get_or l.rounds j [] ≡ round_at (get_or l.initial.rounds 0 []) l.ls j)
     × ((j : ℕ) → l.k < j → j < 8 → get_or l.rounds j [] ≡ get_or l.initial.rounds 0 [])
     × (l.top ≡ most (λ (j : ℕ). get_or (round_at (get_or l.initial.rounds 0 []) l.ls j) l.place 0) (l.k + 1))
-
-abbrev pub decreases-loop-k : goal.decreases-loop-k
-decreases-loop-k l = 7 - l.k

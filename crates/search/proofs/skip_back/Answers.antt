@@ -1,12 +1,34 @@
--- The loans from place i on are to others than q; where the 16 before i are too, i moves down by 16 (`others_before`).
-use borrow.Author.Rules.{rules}
+-- The rest is the first loans, and those behind it are to others than q; where its last 16 are too, it is shorter by 16 (`others_before`).
 use native.Mathlib.Omega.{arith}
+use mathlib.Core.Path.{◌≡◌, sym, ap, subst, ◌∙◌}
+use mathlib.Core.List.{List}
+use Prim.Native.Nat.{ℕ, ◌-◌, ◌≤◌}
+use lib.ListN.{length, get_or, take, drop, take-append-drop}
+use lib.Seq.{length-take-le, take-append-le}
+use lib.Dec.{eqb}
+use Rattle.bits.specs.Sets.{all_below}
+use Rattle.search.specs.Lending.{is_to_other, ToOthers}
 use Rattle.search.proofs.Lending.{others_before}
 use Rattle.search.proofs.skip_back.Goals as goal
 
-pub loop-i-init : goal.loop-i-init
-loop-i-init c = (search rules, λ j h l. absurd (omega arith))
+pub loop-front-init : goal.loop-front-init
+loop-front-init c =
+    let n = length-take-le c.args.end c.args.ls.now c.requires in (omega arith, rw n, λ j h l. absurd (omega arith))
 
-pub loop-i-preserved : goal.loop-i-preserved
-loop-i-preserved c =
-    (search rules, others_before c.args.ls.now c.args.q.0 c.loop-i.i c.args.end c.any_to.result (omega arith) (omega arith) c.any_to.ensures (omega arith) c.loop-i.invariant.1)
+pub loop-front-preserved : goal.loop-front-preserved
+loop-front-preserved c =
+    let ls = c.args.ls.now in
+    let q = c.args.q.0 in
+    let n = length c.loop-front.rest.now in
+    let parts = c.in-Some.ensures.cases in
+    let whole = c.loop-front.invariant.1 in
+    let m : length c.in-Some.front.now ≡ n - 16 = omega arith in
+    let inside : n ≤ length ls = omega (arith, c.requires) in
+    let flags = subst (λ (x : List ℕ). eqb c.any_to.result 0 ≡ all_below (length x) (λ (j : ℕ). is_to_other q (get_or x j 0)))
+    (parts.1 ∙ ap (drop (n - 16)) whole) c.any_to.ensures in
+    let others = others_before ls q n c.args.end c.any_to.result (omega arith) inside flags c.if-any_to-ne0.false c.loop-front.invariant.2 in
+    let front : take (n - 16) ls ≡ take (n - 16) (take n ls)
+    = ap (take (n - 16)) (sym (take-append-drop n ls)) ∙ take-append-le (n - 16) (take n ls) (drop n ls) (omega (arith, length-take-le n ls inside)) in
+    (omega arith,
+    rw m (parts.0 ∙ ap (take (n - 16)) whole ∙ sym front),
+    subst (λ (k : ℕ). ToOthers ls q k c.args.end) (sym m) others)

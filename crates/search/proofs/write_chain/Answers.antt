@@ -4,7 +4,7 @@ use borrow.Author.Rules.{rules}
 use mathlib.Core.List.{[], ◌++◌}
 use native.Mathlib.Omega.{arith}
 use mathlib.Core.Path.{◌≡◌, sym, ap, ◌∙◌}
-use Prim.Native.Nat.{suc, ◌-◌}
+use Prim.Native.Nat.{suc, ◌+◌, ◌-◌}
 use lib.ListN.{length, get_or, drop, set, length-set}
 use Rattle.delegation.specs.Search.{lender_to, traced}
 use Rattle.search.proofs.Trace.{lender_lt, traced-step, traced-end, padding}
@@ -21,9 +21,11 @@ loop-k-init c = (
 
 pub loop-k-preserved : goal.loop-k-preserved
 loop-k-preserved c =
+    let e : c.loop-k.k - 1 + 1 ≡ c.loop-k.k = omega arith in
     let p = sym c.number-place.ensures in
     let f = (λ j. lender_to c.args.ls.now (get_or c.args.rounds.now (c.loop-k.k - 1) []) c.loop-k.q.0 (get_or (get_or c.args.rounds.now c.loop-k.k []) (p j) 0)
-    (length c.args.ls.now)) ∙ sym c.lender_to-q.ensures in (
+    (length c.args.ls.now)) ∙ sym (rw e at c.lender_to-q.ensures) in
+    rw e (
       search rules,
       rw c.lender_to-q.ensures (lender_lt _ _ _ _ _),
       simp length-set c.loop-k.invariant.2,

@@ -12,6 +12,3 @@ abbrev pub invariant-loop-k : goal.invariant-loop-k
 invariant-loop-k l =
     (l.k < 8) × (l.q.0 < 64) × (length l.chain ≡ 8)
     × (traced l.rounds l.ls l.at l.initial.q.0 ++ replicate (7 - l.at) 255 ≡ traced l.rounds l.ls l.k l.q.0 ++ drop (suc l.k) l.chain)
-
-abbrev pub decreases-loop-k : goal.decreases-loop-k
-decreases-loop-k l = l.k

@@ -1,26 +1,7 @@
--- All words have a loan's shape exactly where the flags ORed so far are 0 and those of the rest have it (`scan_next`); at the end the
--- rest is empty (`scan_end`).
-use borrow.Author.Rules.{rules}
-use native.Mathlib.Omega.{arith}
-use mathlib.Core.Path.{refl, ap, ◌∙◌}
-use lib.ListN.{drop_of_length-le}
-use mathlib.Core.Bool.{◌&&◌}
-use lib.Dec.{eqb}
-use Rattle.bits.specs.Sets.{all}
-use Rattle.bits.proofs.Indexed.{all-next}
-use Rattle.bits.proofs.Scan.{scan_next, scan_end}
+use Rattle.std.proofs.Common.{rules}
 use Rattle.loans.specs.Words.{shaped}
+use Rattle.delegation.proofs.Folds.{all_fold}
 use Rattle.loans.proofs.order.are_shaped.Goals as goal
 
-pub loop-i-init : goal.loop-i-init
-loop-i-init c = (search rules, refl)
-
-pub loop-i-preserved : goal.loop-i-preserved
-loop-i-preserved c =
-    let n = all-next shaped c.args.s.now c.loop-i.i 0 (omega arith) in
-    (search rules, scan_next c.loop-i.bad c.shape_flag-x.result _ _ _ (c.loop-i.invariant.1 ∙ ap (λ b. eqb c.loop-i.bad 0 && b) n) c.shape_flag-x.ensures)
-
 pub returns : goal.returns
-unfolding all
-returns c =
-    scan_end (eqb c.loop-i.bad 0) _ _ c.loop-i.invariant.1 (rw (drop_of_length-le c.args.s.now {i = c.loop-i.i} (omega arith)))
+returns c = all_fold shaped _ (λ b. b) _ _ _ _ _ c.fold.ensures.ran (search rules) (λ a x b f k. search rules)

@@ -1,15 +1,12 @@
--- The part that is looked at holds the loans in use (`part-used`); where it is empty, none has a last shift (`used-none`).
-use mathlib.Core.Path.{ap, ◌∙◌}
-use Rattle.bits.specs.Sets.{any}
+use Rattle.std.proofs.Common.{rules}
+use mathlib.Core.Path.{◌∙◌, sym, ap}
+use mathlib.Core.Bool.{not, not-not}
 use Rattle.delegation.specs.Loans.{word_dated}
-use Rattle.loans.proofs.Parts.{used-none, part-used}
+use Rattle.delegation.proofs.Folds.{all_fold}
+use Rattle.loans.proofs.Folds.{any-none}
 use Rattle.loans.proofs.shift.has_dated.Goals as goal
-
-pub returns-then-n-eq0 : goal.returns-then-n-eq0
-unfolding any
-returns-then-n-eq0 c =
-    rw (used-none c.args.loans.now c.in_use-n.result c.in_use-n.ensures c.if-n-eq0.true)
 
 pub returns : goal.returns
 returns c =
-    c.has.ensures ∙ ap (any word_dated) (part-used c.args.loans.now c.in_use-n.result c.in_use-n.ensures)
+    sym (not-not c.fold.result) ∙ ap not (all_fold (λ w. not (word_dated w)) _ not _ _ _ _ _ c.fold.ensures.ran (c.iter.ensures.rest ∙ c.used.ensures) (λ a x b f k. search rules))
+    ∙ any-none word_dated _
