@@ -9,7 +9,7 @@ use lib.Dec.{eqb}
 use Rattle.model.specs.declared.Facts.{Facts}
 use Rattle.model.specs.declared.Verb.{Verb}
 use Rattle.model.specs.declared.Arguments.{Arguments}
-use Rattle.std.specs.Prelude.{Some, None, Result, Ok, Err, ⊤}
+use Rattle.std.specs.Prelude.{Some, None, Result, Ok, Err, IsErr, IsErrAnd, ⊤}
 use Rattle.model.specs.declared.Refusal.{Refusal}
 use Rattle.model.specs.declared.Refusal.TheVariants as is
 use Rattle.model.specs.Answers.{answer, refusal_number, refusal_for, number_of, answered, Numbered, effect_of, count_in, checked_yes, Found, nothing, found_in, found_said, table, asked, knows}
@@ -108,6 +108,11 @@ row-is b n m r x y h k e = k ∙ ap Err h.1 ∙ refused_is y n tt e ∙ sym (rw 
 pub last-row : (b : Bool) (n : ℕ) (r : Refusal) → refusal_number r ≡ n → row-of b r ≡ answered (cond b n 0) tt
 last-row true n r e = refused_is r n tt e
 last-row false n r e = found_is 0 tt refl
+
+-- what `?` passes on
+pub passed-on : {T E : Type 0} {P : E → Type 0} (r : Result T E) (x : E) → IsErr r × IsErrAnd r P → ((y : E) → P y → y ≡ x) → r ≡ Err x
+passed-on (Ok y) x h f = absurd (false≢true h.0)
+passed-on (Err y) x h f = ap Err (f y h.1)
 
 -- ---- the effect of a command, in any state
 -- a refused one counts nothing and leaves the state

@@ -1,8 +1,7 @@
 -- A source or a target of a wrong length is refused (`source-short`, `convert-short`), then what looking at the source refuses
 -- (`convert_stops`). What is not refused is turned (`convert_done`).
-use mathlib.Core.Path.{◌≡◌, sym, ap, ◌∙◌, subst}
-use Rattle.std.proofs.Common.{rules}
-use Rattle.std.specs.Prelude.{Err}
+use mathlib.Core.Path.{sym, ap, ◌∙◌, subst}
+use Rattle.model.proofs.Answers.{passed-on}
 use Rattle.layouts.specs.Layouts.{lists, rows}
 use Rattle.layouts.specs.Convert.{convert, Converts}
 use Rattle.layouts.proofs.Convert.{source-short, convert-short, convert_stops, convert_done}
@@ -21,9 +20,8 @@ pub returns-in_err-inspect : goal.returns-in_err-inspect
 unfolding rows
 returns-in_err-inspect c =
     let whole = c.in-Some-as_mut_array.ensures.cases in
-    let e : c.from_residual.result ≡ Err c.in_err-inspect.field-0.0 = search rules in
     rw whole.same
-    (subst (λ r. Converts lists rows c.args.source.now c.args.target.now r c.args.source.now c.args.target.now) (sym e)
+    (subst (λ r. Converts lists rows c.args.source.now c.args.target.now r c.args.source.now c.args.target.now) (sym (passed-on _ _ c.from_residual.ensures (λ y e. e)))
     (convert_stops lists rows c.args.source.now c.args.target.now _ whole.long c.in_err-inspect.ensures.0.0))
 
 pub returns : goal.returns
