@@ -40,23 +40,14 @@ pub struct Inquiry {
 fn places_for(number: u32) -> usize
     ensures { result ≡ places_for number }
 {
-    if number != 0 {
-        return 0;
-    }
-    Reading::PLACES
+    if number != 0 { 0 } else { Reading::PLACES }
 }
 
 // Before an image is read into a slice of so many places. The length is told here already, so that the reading needs no test of it.
 pub fn judge(image: &[u64], places: usize) -> Reading
     ensures { result ≡ reading_of image.now places }
 {
-    if places != Reading::PLACES {
-        return Reading {
-            number: 1,
-            count: 0,
-        };
-    }
-    if image.len() != Reading::WORDS {
+    if places != Reading::PLACES || image.len() != Reading::WORDS {
         return Reading {
             number: 1,
             count: 0,
@@ -72,10 +63,7 @@ pub fn judge(image: &[u64], places: usize) -> Reading
 fn word_at(image: &[u64], i: usize) -> u64
     ensures { result ≡ get_or image.now i 0 }
 {
-    if image.len() <= i {
-        return 0;
-    }
-    image[i]
+    image.get(i).copied().unwrap_or(0)
 }
 
 pub fn no_ticket() -> Ticket
@@ -144,14 +132,6 @@ pub fn ask(places: usize, who: u32, on: u32, right: u32) -> Inquiry
 pub fn look(q: Inquiry, found: u32, t: Ticket) -> u32
     ensures { result ≡ found_of q found t }
 {
-    if t.item as u32 != q.on {
-        return found;
-    }
-    if t.right as u32 != q.right {
-        return found;
-    }
-    if !word::has(t.holders, q.who) {
-        return found;
-    }
-    1
+    let fits = t.item as u32 == q.on && t.right as u32 == q.right && word::has(t.holders, q.who);
+    if fits { 1 } else { found }
 }
