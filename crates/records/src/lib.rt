@@ -12,7 +12,8 @@ use bits::word;
 use model::Question;
 use ticketing::Ticket;
 
-// The number of reading an image into a slice, and how many places are to be filled: none beside a refusal.
+// The number of reading an image into a slice, and how many places are to be filled: none beside a refusal. Numbers and no Result, here and
+// in `Inquiry`: the exported functions that are lent structs go by the two numbers alone.
 #[derive(Clone, Copy)]
 pub struct Reading {
     pub number: u32,
