@@ -14,7 +14,7 @@ use crate::reply::{Reply, Said, Tail};
 use lines::show::{put_bytes, put_number};
 
 // The private functions below write from a place on and give the place after. Each requires the room that its text can take, and
-// ensures that no more was taken.
+// ensures that no more was taken. A struct of the buffer and the place would add to each contract that it still holds the same buffer.
 fn put_said(buf: &mut [u8], at: usize, said: Said) -> usize
     requires { at + 10 ≤ length buf.old }
     ensures { Wrote buf.old at (said_text said) result buf.new × (result ≤ at + 10) }

@@ -12,7 +12,8 @@ use bits::Word;
 use model::Question;
 use ticketing::Ticket;
 
-// The number of reading an image into a slice, and how many places are to be filled: none beside a refusal.
+// The number of reading an image into a slice, and how many places are to be filled: none beside a refusal. Numbers and no Result, here and
+// in `Inquiry`: the exported functions that are lent structs go by the two numbers alone.
 #[derive(Clone, Copy)]
 pub struct Reading {
     pub number: u32,
@@ -40,23 +41,14 @@ pub struct Inquiry {
 fn places_for(number: u32) -> usize
     ensures { result ≡ places_for number }
 {
-    if number != 0 {
-        return 0;
-    }
-    Reading::PLACES
+    if number != 0 { 0 } else { Reading::PLACES }
 }
 
 // Before an image is read into a slice of so many places. The length is told here already, so that the reading needs no test of it.
 pub fn judge(image: &[u64], places: usize) -> Reading
     ensures { result ≡ reading_of image.now places }
 {
-    if places != Reading::PLACES {
-        return Reading {
-            number: 1,
-            count: 0,
-        };
-    }
-    if image.len() != Reading::WORDS {
+    if places != Reading::PLACES || image.len() != Reading::WORDS {
         return Reading {
             number: 1,
             count: 0,
@@ -72,10 +64,7 @@ pub fn judge(image: &[u64], places: usize) -> Reading
 fn word_at(image: &[u64], i: usize) -> u64
     ensures { result ≡ get_or image.now i 0 }
 {
-    if image.len() <= i {
-        return 0;
-    }
-    image[i]
+    image.get(i).copied().unwrap_or(0)
 }
 
 pub fn no_ticket() -> Ticket
@@ -144,14 +133,6 @@ pub fn ask(places: usize, who: u32, on: u32, right: u32) -> Inquiry
 pub fn look(q: Inquiry, found: u32, t: Ticket) -> u32
     ensures { result ≡ found_of q found t }
 {
-    if t.item as u32 != q.on {
-        return found;
-    }
-    if t.right as u32 != q.right {
-        return found;
-    }
-    if !t.holders.has(q.who) {
-        return found;
-    }
-    1
+    let fits = t.item as u32 == q.on && t.right as u32 == q.right && t.holders.has(q.who);
+    if fits { 1 } else { found }
 }

@@ -9,10 +9,8 @@ pub extern "C" fn rights_tickets_records(image: &[u64], tickets: &mut [Ticket]) 
     ensures { Reads image.now tickets.old result tickets.new image.now }
 {
     let r = records::judge(image, tickets.len());
-    let mut k = 0;
-    while k < r.count {
+    for k in 0..r.count {
         tickets[k] = records::ticket_of(image, k);
-        k += 1;
     }
     r.number
 }
@@ -41,10 +39,8 @@ pub extern "C" fn rights_tickets_check_records(
 {
     let q = records::ask(tickets.len(), who, on, right);
     let mut found = 0;
-    let mut k = 0;
-    while k < q.count {
+    for k in 0..q.count {
         found = records::look(q, found, tickets[k]);
-        k += 1;
     }
     *yes = found;
     q.number

@@ -41,6 +41,8 @@ struct Piece {
     next: Progress,
 }
 
+// The four images stay parameters of their own: a struct of four `&mut` would add to each contract that it still holds the same four, and
+// the public functions take the images.
 // Runs the line that ended in the line buffer, and writes its output.
 fn take_line(
     list: &mut [u64],

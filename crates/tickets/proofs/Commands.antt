@@ -5,20 +5,22 @@ use mathlib.Core.Bool.{Bool, true, false, ◌&&◌}
 use mathlib.Core.List.{List, map}
 use Prim.Native.Nat.{ℕ, zero, suc, ◌+◌, ◌/◌, ◌%◌, ◌≤◌, ◌<◌}
 use native.Mathlib.Omega.{arith}
-use borrow.Author.Tests.{eqb-true, eqb-false, leb-true}
+use borrow.Author.Tests.{ne_eqb, leb-true}
 use lib.ListN.{length, get_or, drop, set}
 use lib.Dec.{eqb}
 use Rattle.bits.specs.Sets.{any}
-use Rattle.bits.proofs.Sets.{fst, snd, by_cases}
-use Rattle.model.specs.Answers.{◌when◌else◌}
-use Rattle.model.proofs.Invariant.{blocked}
+use Rattle.bits.proofs.Sets.{fst, snd}
+use Rattle.model.specs.Answers.{refusal_number, ◌when◌else◌}
 use Rattle.ticketing.specs.declared.Ticket.{Ticket}
 use Rattle.ticketing.specs.Machine.{tickets, vacant, last_number, is_number, changed, holds, full, spent}
 use Rattle.ticketing.specs.Order.{differ, is_in_order}
 use Rattle.ticketing.specs.Image.{ticket_words, word_of, machine_of, image_of, ticket_at, from}
 use Rattle.ticketing.proofs.Images.{from_zero, length-records}
-use Rattle.tickets.specs.Places.{key_of, held_for, place_of, is_free, placed, Ready, Issued}
-use Rattle.tickets.proofs.Places.{next_place, place_le, full-place, placed-words}
+use lib.Arith.{lt_of_le-ne}
+use Rattle.model.specs.declared.Refusal.{Refusal}
+use Rattle.std.specs.Prelude.{Some, None, Ok, Err}
+use Rattle.tickets.specs.Places.{key_of, held_for, place_of, is_free, placed, Ready, Issued, IsPlace, HasRoom}
+use Rattle.tickets.proofs.Places.{next_place, full-place, placed-words}
 use Rattle.tickets.proofs.Numbers.{no_number, test_number, change_number}
 use Rattle.tickets.proofs.Fields.{keys_code}
 
@@ -71,38 +73,47 @@ edit_code s p w =
     ap (λ (k : ℕ). any (held_for p k) (machine_of s).records) e ∙ keys_code (drop 2 s) p (w / 4294967296 % 256) 0 (omega arith)
 
 -- ---- room for a new ticket
-module _ (s : List ℕ) (size : length s ≡ ticket_words) (p : ℕ) (at : p ≡ place_of is_free (machine_of s).records) where
-  pub full_code : eqb p 1024 ≡ full (machine_of s)
-  full_code = ap₂ eqb at (sym (length-records s size)) ∙ sym (full-place (machine_of s).records)
+module _ (s : List ℕ) (size : length s ≡ ticket_words) where
+  full_code : eqb (place_of is_free (machine_of s).records) 1024 ≡ full (machine_of s)
+  full_code = ap (eqb (place_of is_free (machine_of s).records)) (sym (length-records s size)) ∙ sym (full-place (machine_of s).records)
 
-  -- numbers 15 and 16 are the table's
-  pub room_code : (r n : ℕ) → n ≡ get_or s 1 0 → r ≡ 15 when eqb p 1024 else 16 when eqb n 4294967295 else 0
-      → r ≡ 15 when full (machine_of s) else 16 when spent (machine_of s) else 0
-  unfolding machine_of
-  room_code r n e h = h ∙ ap₂ (λ a b. 15 when a else 16 when b else 0) full_code (ap (λ (k : ℕ). eqb k 4294967295) e)
+  -- no place is free, or no number is left
+  pub full_room : (a : Refusal) → refusal_number a ≡ 15 → IsPlace is_free s None → HasRoom s (Err a)
+  full_room a n h =
+      let e : full (machine_of s) ≡ true = sym full_code ∙ rw h in
+      rw (n, e)
 
-  -- where neither applies, the ticket may be put there
-  pub room-left : (r n by on right : ℕ) → n ≡ get_or s 1 0 → r ≡ 15 when eqb p 1024 else 16 when eqb n 4294967295 else 0 → r ≡ 0
-      → Ready s by on right → Issued s p by on right
-  unfolding machine_of
-  room-left r n by on right e h z v =
-      let a = blocked 14 (eqb p 1024) _ (sym h ∙ z) in
-      let b = blocked 15 (eqb n 4294967295) 0 a.1 in
-      let x = eqb-false p 1024 a.0 in
-      let y = eqb-false n 4294967295 b.0 in
-      let l = place_le is_free (machine_of s).records in
-      let k = length-records s size in
-      let o = v.order in
-      let m : get_or s 1 0 ≤ last_number = search (fst, snd, leb-true) in
-      record {
-        size = size;
-        free = below p 1024 (omega arith) x;
-        first = at;
-        left = below (get_or s 1 0) last_number m (λ t. y (e ∙ t));
-        by-item = v.by-item;
-        on-item = v.on-item;
-        right_in = v.right_in;
-      }
-    where
-      below : (a b : ℕ) → a ≤ b → (a ≡ b → ⊥) → a < b
-      below a b l n = by_cases (eqb a b) (λ t. absurd (n (eqb-true a b t))) (λ f. let k = eqb-false a b f in omega arith)
+  module _ {p : ℕ} (h : IsPlace is_free s (Some p)) where
+    free : full (machine_of s) ≡ false
+    free = sym full_code ∙ ne_eqb (place_of is_free (machine_of s).records) 1024 (λ z. omega (arith, h.0, h.1))
+
+    pub spent_room : (a : Refusal) → refusal_number a ≡ 16 → get_or s 1 0 ≡ last_number → HasRoom s (Err a)
+    unfolding machine_of
+    spent_room a n e =
+        let f = free in
+        let g : spent (machine_of s) ≡ true = rw e in
+        rw (n, f, g)
+
+  -- a ticket may be put there, and the table refuses nothing
+  module _ {p : ℕ} (h : HasRoom s (Ok p)) where
+    pub room_code : (15 when full (machine_of s) else 16 when spent (machine_of s) else 0) ≡ 0
+    unfolding machine_of
+    room_code =
+        let f = free (h.0, h.1) in
+        let g : spent (machine_of s) ≡ false = ne_eqb (get_or s 1 0) last_number h.2 in
+        rw (f, g)
+
+    pub room-left : (by on right : ℕ) → Ready s by on right → Issued s p by on right
+    unfolding machine_of
+    room-left by on right v =
+        let o = v.order in
+        let m : get_or s 1 0 ≤ last_number = search (fst, snd, leb-true) in
+        record {
+          size = size;
+          free = h.0;
+          first = h.1;
+          left = lt_of_le-ne m h.2;
+          by-item = v.by-item;
+          on-item = v.on-item;
+          right_in = v.right_in;
+        }

@@ -1,10 +1,10 @@
 -- The places of an image. A scan goes place after place: what holds of the tickets from place k on holds of place k and of those after
 -- it, so a loop carries what the rest still has to say. A write at a place is a write into the list of tickets, for two words make one.
 use mathlib.Core.Path.{◌≡◌, refl, sym, ap, ap₂, ◌∙◌}
-use mathlib.Core.Bool.{Bool, true, false, not, ◌&&◌, ◌||◌, cond, and-true, or-false}
+use mathlib.Core.Bool.{Bool, true, false, not, ◌&&◌, ◌||◌, cond, or-false}
 use mathlib.Core.List.{List, [], ◌∷◌, ◌++◌, map, append-nil, map-append}
 use Prim.Native.Nat.{ℕ, zero, suc, ◌+◌, ◌*◌, ◌/◌, ◌%◌, ◌≤◌, ◌<◌}
-use native.Mathlib.Nat.{add-zero}
+use native.Mathlib.Nat.{zero-add}
 use native.Mathlib.Numerals.{add-one}
 use native.Mathlib.Omega.{arith}
 use borrow.Author.Tests.{eqb-true, eq-eqb, ne_eqb}
@@ -20,7 +20,9 @@ use Rattle.ticketing.specs.Machine.{Tickets, ticket, tickets, vacant, vacancies,
 use Rattle.ticketing.specs.Image.{ticket_words, word_of, ticket_of, words_of, tickets_in, image_of, machine_of, ticket_at, from}
 use Rattle.ticketing.proofs.Images.{from_step, from_end, from_zero, image-parts, word_is}
 use Rattle.ticketing.specs.Unit.{fresh_image}
-use Rattle.tickets.specs.Places.{place_of, is_free, live_numbers, placed, placed_ticket, Issued}
+use Rattle.ticketing.specs.Order.{record_ok}
+use Rattle.std.specs.Prelude.{Option, Some, None, is_some}
+use Rattle.tickets.specs.Places.{place_of, is_free, live_numbers, placed, placed_ticket, Issued, FirstOf, FirstPlace, IsPlace, Gathered}
 
 -- ---- scans
 -- a turn that has not gone past the last place
@@ -28,15 +30,14 @@ module _ (s : List ℕ) (k : ℕ) (size : length s ≡ ticket_words) (less : k <
   pub next_place : from s k ≡ ticket_at s k ∷ from s (k + 1)
   next_place = from_step s k (omega arith)
 
-  -- every ticket passes: `so` says it of those before place k, `here` of the one there
-  pub all-next : (q : Ticket → Bool) (whole so here : Bool) → whole ≡ so && all q (from s k) → here ≡ q (ticket_at s k)
-      → whole ≡ (so && here) && all q (from s (k + 1))
+  -- every ticket passes where it does, and those after it; not where it doesn't
+  all-next : (q : Ticket → Bool) (whole : Bool) → whole ≡ all q (from s k) → q (ticket_at s k) ≡ true → whole ≡ all q (from s (k + 1))
   unfolding all
-  all-next q whole so here e h = e ∙ ap (λ ts. so && all q ts) next_place ∙ rw (← h) (go so here)
-    where
-      go : (a b : Bool) → a && (b && all q (from s (k + 1))) ≡ (a && b) && all q (from s (k + 1))
-      go true b = refl
-      go false b = refl
+  all-next q whole e h = e ∙ ap (all q) next_place ∙ rw h
+
+  all-stop : (q : Ticket → Bool) (whole : Bool) → whole ≡ all q (from s k) → q (ticket_at s k) ≡ false → whole ≡ false
+  unfolding all
+  all-stop q whole e h = e ∙ ap (all q) next_place ∙ rw h
 
   -- some ticket passes
   pub any_next : (q : Ticket → Bool) (whole so here : Bool) → whole ≡ so || any q (from s k) → here ≡ q (ticket_at s k)
@@ -72,29 +73,17 @@ module _ (s : List ℕ) (k : ℕ) (size : length s ≡ ticket_words) (less : k <
       go true = refl
       go false = refl
 
-  -- the numbers gathered so far, with the one at place k where its ticket lives
-  pub gather_next : (whole d : List ℕ) (count n : ℕ) → count < length d → whole ≡ take count d ++ live_numbers (from s k)
-      → n ≡ (ticket_at s k).number
-      → whole ≡ take (count + cond (eqb (ticket_at s k).holders 0) 0 1) (cond (eqb (ticket_at s k).holders 0) d (set d count n))
-      ++ live_numbers (from s (k + 1))
-  gather_next whole d count n room e h =
-      e ∙ ap (λ ns. take count d ++ ns) live-next ∙ rw (← h) (go (eqb (ticket_at s k).holders 0))
-    where
-      rest : List ℕ
-      rest = live_numbers (from s (k + 1))
+-- after k places of a scan, each in order: the numbers of their live tickets are the first in the buffer
+pub record Scanned (s d : List ℕ) (count k : ℕ) : Type 0 where
+  pub few : count ≤ k
+  pub right : all (record_ok (get_or s 0 0) (get_or s 1 0)) (machine_of s).records ≡ all (record_ok (get_or s 0 0) (get_or s 1 0)) (from s k)
+  pub numbers : live_numbers (machine_of s).records ≡ take count d ++ live_numbers (from s k)
 
-      go : (b : Bool) → take count d ++ cond (not b) (n ∷ rest) rest ≡ take (count + cond b 0 1) (cond b d (set d count n)) ++ rest
-      go false =
-          sym (append_snoc (take count d) n rest)
-          ∙ ap (λ ns. ns ++ rest) (sym (take-suc-set d count n room) ∙ ap (λ (i : ℕ). take i (set d count n)) (sym (add-one count)))
-      go true = ap (λ (i : ℕ). take i d ++ rest) (sym (add-zero count))
+pub scanned-start : (s d : List ℕ) → Scanned s d 0 0
+scanned-start s d = record { few = omega arith; right = ap (all _) (from_zero s); numbers = ap live_numbers (from_zero s) }
 
 -- past the last place nothing is left to say
 module _ (s : List ℕ) (size : length s ≡ ticket_words) where
-  pub all_end : (q : Ticket → Bool) (whole so : Bool) → whole ≡ so && all q (from s 1024) → so ≡ whole
-  unfolding all
-  all_end q whole so e = sym (e ∙ ap (λ ts. so && all q ts) (from_end s size) ∙ and-true so)
-
   pub any-end : (q : Ticket → Bool) (whole so : Bool) → whole ≡ so || any q (from s 1024) → so ≡ whole
   unfolding any
   any-end q whole so e = sym (e ∙ ap (λ ts. so || any q ts) (from_end s size) ∙ or-false so)
@@ -103,11 +92,88 @@ module _ (s : List ℕ) (size : length s ≡ ticket_words) where
   unfolding place_of
   place_end q p e = let a : place_of q (from s 1024) ≡ 0 = ap (place_of q) (from_end s size) in omega arith
 
-  pub gathered_end : (ns : List ℕ) → ns ++ live_numbers (from s 1024) ≡ ns
-  unfolding keep
-  gathered_end ns = ap (λ ts. ns ++ live_numbers ts) (from_end s size) ∙ append-nil ns
+  module _ {d : List ℕ} {count k : ℕ} (v : Scanned s d count k) where
+    module _ (less : k < 1024) where
+      -- a place without a live ticket
+      pub scanned-none : record_ok (get_or s 0 0) (get_or s 1 0) (ticket_at s k) ≡ true → (ticket_at s k).holders ≡ 0 → Scanned s d count (k + 1)
+      scanned-none h z =
+          let e : is_live (ticket_at s k) ≡ false = rw z in
+          record {
+            few = omega (arith, v.few);
+            right = all-next s k size less _ _ v.right h;
+            numbers = v.numbers ∙ ap (λ ns. take count d ++ ns) (live-next s k size less ∙ rw e);
+          }
+
+      -- and one with a live ticket
+      pub scanned-live : (n : ℕ) → record_ok (get_or s 0 0) (get_or s 1 0) (ticket_at s k) ≡ true → ((ticket_at s k).holders ≡ 0 → ⊥)
+          → n ≡ (ticket_at s k).number → length d ≡ 1024 → Scanned s (set d count n) (count + 1) (k + 1)
+      scanned-live n h z e m =
+          let l : is_live (ticket_at s k) ≡ true = rw (ne_eqb (ticket_at s k).holders 0 z) in
+          let room : count < length d = omega (arith, v.few) in
+          record {
+            few = omega (arith, v.few);
+            right = all-next s k size less _ _ v.right h;
+            numbers = v.numbers ∙ ap (λ ns. take count d ++ ns) (live-next s k size less ∙ rw (l, ← e))
+                ∙ sym (append_snoc (take count d) n (live_numbers (from s (k + 1))))
+                ∙ ap (λ ns. ns ++ live_numbers (from s (k + 1)))
+                (sym (take-suc-set d count n room) ∙ ap (λ (i : ℕ). take i (set d count n)) (sym (add-one count)));
+          }
+
+      pub scanned-bad : record_ok (get_or s 0 0) (get_or s 1 0) (ticket_at s k) ≡ false
+          → all (record_ok (get_or s 0 0) (get_or s 1 0)) (machine_of s).records ≡ false
+      scanned-bad h = all-stop s k size less _ _ v.right h
+
+    pub scanned-end : 1024 ≤ k → k ≤ 1024 → Gathered s d (Some count)
+    unfolding all keep
+    scanned-end a b =
+        let e : k ≡ 1024 = omega arith in (
+          v.right ∙ ap (λ i. all (record_ok (get_or s 0 0) (get_or s 1 0)) (from s i)) e
+              ∙ ap (all (record_ok (get_or s 0 0) (get_or s 1 0))) (from_end s size),
+          omega (arith, v.few),
+          sym (v.numbers ∙ ap (λ i. take count d ++ live_numbers (from s i)) e
+              ∙ ap (λ ts. take count d ++ live_numbers ts) (from_end s size) ∙ append-nil (take count d)),
+        )
 
 -- ---- the first place that passes
+module _ (s : List ℕ) (size : length s ≡ ticket_words) (q : Ticket → Bool) where
+  none_below : (k : ℕ) → k ≤ 1024 → ((j : ℕ) → j < k → q (ticket_at s j) ≡ false)
+      → (place_of q (machine_of s).records ≡ k + place_of q (from s k)) × (any q (machine_of s).records ≡ any q (from s k))
+  none_below zero h n = (ap (place_of q) (from_zero s) ∙ sym (zero-add _), ap (any q) (from_zero s))
+  none_below (suc k) h n =
+      let i = none_below k (omega arith) (λ j l. n j (omega arith)) in
+      let e = n k (omega arith) in
+      rw (← add-one k) (
+        place-next s k size (omega arith) q _ i.0 e,
+        any_next s k size (omega arith) q _ false false i.1 (sym e),
+      )
+
+  -- what is found by a test that is the ticket's
+  module _ {P : ℕ → ℕ → Bool → Type 0} {r : Option ℕ} (f : FirstPlace P s r) (same : (w h : ℕ) (b : Bool) → P w h b → b ≡ q (ticket_of w h)) where
+    pub place_found : IsPlace q s r
+    place_found = go r f.first
+      where
+        go : (r : Option ℕ) → FirstOf P s r → IsPlace q s r
+        go None v = sym (place_end s size q _ (none_below 1024 (omega arith) (λ j l. sym (same _ _ false (v j l)))).0)
+        go (Some n) v = (
+          v.0,
+          place_here s n size v.0 q _ (none_below n (omega (arith, v.0)) (λ j l. sym (same _ _ false (v.1 j l)))).0 (sym (same _ _ true v.2)),
+        )
+
+    pub any_found : is_some r ≡ any q (machine_of s).records
+    any_found = go r f.first
+      where
+        go : (r : Option ℕ) → FirstOf P s r → is_some r ≡ any q (machine_of s).records
+        go None v = any-end s size q _ false (none_below 1024 (omega arith) (λ j l. sym (same _ _ false (v j l)))).1
+        go (Some n) v =
+            sym (any_next s n size v.0 q _ false true (none_below n (omega (arith, v.0)) (λ j l. sym (same _ _ false (v.1 j l)))).1 (same _ _ true v.2))
+
+pub free_code : (w h : ℕ) {b : Bool} → b ≡ eqb h 0 → b ≡ is_free (ticket_of w h)
+free_code w h e = e ∙ twice (eqb h 0)
+  where
+    twice : (a : Bool) → a ≡ not (not a)
+    twice true = refl
+    twice false = refl
+
 pub place_le : (q : Ticket → Bool) (ts : List Ticket) → place_of q ts ≤ length ts
 unfolding place_of
 place_le q [] = omega arith

@@ -1,14 +1,14 @@
 -- The places of an image, as the unit's own functions speak of them.
-use Rattle.std.specs.Prelude.{◌≡◌, Bool, true, not, ◌&&◌, cond, Result, List, [], ◌∷◌, map, ℕ, suc, ◌+◌, ◌*◌, ◌<◌, ◌%◌, length, get_or, set, eqb}
-use Rattle.bits.specs.Sets.{keep}
+use Rattle.std.specs.Prelude.{◌≡◌, Option, Some, None, Result, Ok, Err, Bool, true, false, not, ◌&&◌, cond, List, [], ◌∷◌, map, ℕ, suc, ◌+◌, ◌*◌, ◌<◌, ◌≤◌, length, take, get_or, set, eqb}
+use Rattle.bits.specs.Sets.{all, keep}
 use Rattle.bits.specs.Bits.{bit}
-use Rattle.model.specs.Answers.{number_of, answered}
+use Rattle.model.specs.Answers.{refusal_number, number_of, answered, ◌when◌else◌}
 use Rattle.ticketing.specs.declared.Ticket.{Ticket}
 use Rattle.model.specs.declared.Refusal.{Refusal}
 use Rattle.ticketing.specs.declared.TicketCommand.TheVariants.{Generate}
-use Rattle.ticketing.specs.Machine.{is_live, table, last_number, most_tickets}
+use Rattle.ticketing.specs.Machine.{is_live, table, full, spent, last_number, most_tickets}
 use Rattle.ticketing.specs.Order.{record_ok, is_in_order}
-use Rattle.ticketing.specs.Image.{ticket_words, ticket_of, machine_of, word_of}
+use Rattle.ticketing.specs.Image.{ticket_words, machine_of, word_of}
 use Rattle.ticketing.specs.Unit.{Judged}
 
 -- an item and a right as one number
@@ -65,9 +65,29 @@ placed s k w h = set (set s (2 + 2 * k) w) (3 + 2 * k) h
 abbrev pub placed_ticket : List ℕ → ℕ → Ticket → List ℕ
 placed_ticket s k t = placed s k (word_of t) t.holders
 
--- one place more of a scan: what is found of the places so far, and the numbers of their live tickets, with the place of words w and h
-pub record Visited (d : List ℕ) (ok : Bool) (count w h live next : ℕ) (ok' : Bool) (count' : ℕ) (d' : List ℕ) : Type 0 where
-  pub right : ok' ≡ ok && record_ok live next (ticket_of w h)
-  pub many : count' ≡ count + cond (eqb h 0) 0 1
-  pub numbers : d' ≡ cond (eqb h 0) d (set d count (w % 4294967296))
-  pub size : length d' ≡ most_tickets
+-- the first place whose words P says true of, and false of those before it; or none, and false of every place
+abbrev pub FirstOf : (ℕ → ℕ → Bool → Type 0) → List ℕ → Option ℕ → Type 0
+FirstOf P s None = (k : ℕ) → k < most_tickets → P (get_or s (2 + 2 * k) 0) (get_or s (3 + 2 * k) 0) false
+FirstOf P s (Some n) =
+    (n < most_tickets) × ((k : ℕ) → k < n → P (get_or s (2 + 2 * k) 0) (get_or s (3 + 2 * k) 0) false)
+    × P (get_or s (2 + 2 * n) 0) (get_or s (3 + 2 * n) 0) true
+
+pub record FirstPlace (P : ℕ → ℕ → Bool → Type 0) (s : List ℕ) (r : Option ℕ) : Type 0 where
+  pub first : FirstOf P s r
+
+-- the first place whose ticket passes, or none
+abbrev pub IsPlace : (Ticket → Bool) → List ℕ → Option ℕ → Type 0
+IsPlace q s None = place_of q (machine_of s).records ≡ most_tickets
+IsPlace q s (Some p) = (p < most_tickets) × (p ≡ place_of q (machine_of s).records)
+
+-- the place for a new ticket, or the number that refuses one
+abbrev pub HasRoom : List ℕ → Result ℕ Refusal → Type 0
+HasRoom s (Ok p) = (p < most_tickets) × (p ≡ place_of is_free (machine_of s).records) × (get_or s 1 0 ≡ last_number → ⊥)
+HasRoom s (Err a) = refusal_number a ≡ 15 when full (machine_of s) else 16 when spent (machine_of s) else 0
+
+-- the numbers of the live tickets of an image in order, or none of another
+abbrev pub Gathered : List ℕ → List ℕ → Option ℕ → Type 0
+Gathered s d None = all (record_ok (get_or s 0 0) (get_or s 1 0)) (machine_of s).records ≡ false
+Gathered s d (Some count) =
+    (all (record_ok (get_or s 0 0) (get_or s 1 0)) (machine_of s).records ≡ true) × (count ≤ most_tickets)
+    × (take count d ≡ live_numbers (machine_of s).records)

@@ -12,7 +12,7 @@ ghost use Rattle.ticketing.specs.Machine.{ticket, tickets, most_tickets, lives, 
 ghost use Rattle.ticketing.specs.Order.{sound, record_ok, differ, is_in_order};
 ghost use Rattle.ticketing.specs.Image.{ticket_words, word_of, ticket_of, ticket_at, machine_of, image_of};
 ghost use Rattle.ticketing.specs.Unit.{guarded, Judged, Ran, Generates, Inspects, Checks, fresh_image, Freshens};
-ghost use Rattle.tickets.specs.Places.{key_of, held_for, place_of, is_free, live_numbers, Ready, Issued, JudgedGenerate, placed, placed_ticket, Visited};
+ghost use Rattle.tickets.specs.Places.{key_of, held_for, is_free, Ready, Issued, JudgedGenerate, placed, placed_ticket, FirstPlace, IsPlace, HasRoom, Gathered};
 
 use bits::{Word, words};
 use layouts::admit;
@@ -100,54 +100,27 @@ fn is_sound(w: u64, h: u64, live: u64, next: u64) -> bool
         & (h & !live == 0)
 }
 
-// What a scan of the places finds: whether each is in order, and how many live tickets there are.
-#[derive(Clone, Copy)]
-struct Found {
-    ok: bool,
-    count: usize,
-}
-
-// One place more: it is all zero, which most are; or it has a holder, its ticket may stand, and its number goes into the buffer.
-fn visit(buffer: &mut [u32; 1024], found: Found, w: u64, h: u64, live: u64, next: u64) -> Found
-    requires { (length buffer.old ≡ most_tickets) × (found.count < most_tickets) × (live < 18446744073709551616) }
-    ensures { Visited buffer.old found.ok found.count w h live next result.ok result.count buffer.new }
-{
-    if (w | h) == 0 {
-        return found;
-    }
-    if h == 0 {
-        return Found {
-            ok: false,
-            count: found.count,
-        };
-    }
-    let count = found.count;
-    buffer[count] = (w % 4294967296) as u32;
-    let sound = is_sound(w, h, live, next);
-    Found {
-        ok: found.ok & sound,
-        count: count + 1,
-    }
-}
-
-// Every place; the numbers of the live tickets into the buffer, in the order of their places.
-fn scan(image: &[u64], buffer: &mut [u32; 1024]) -> Found
-    requires { (length image.now ≡ ticket_words) × (length buffer.old ≡ most_tickets) }
-    ensures { (result.ok ≡ all (record_ok (get_or image.now 0 0) (get_or image.now 1 0))
-        (machine_of image.now).records) × (result.count ≤ most_tickets) × (length buffer.new ≡ most_tickets)
-        × (take result.count buffer.new ≡ live_numbers (machine_of image.now).records) }
+// The numbers of the live tickets, in the order of their places, into the buffer, and how many there are; none where a place is not in
+// order. A place is all zero, which most are; or it has a holder, and its ticket may stand.
+fn gather(image: &[u64], buffer: &mut [u32; 1024]) -> Option<usize>
+    requires { length image.now ≡ ticket_words }
+    ensures { Gathered image.now buffer.new result }
 {
     let live = image[0];
     let next = image[1];
-    let mut found = Found { ok: true, count: 0 };
-    let mut k: usize = 0;
-    while k < Tickets::PLACES {
+    let mut count = 0;
+    for k in 0..Tickets::PLACES {
         let w = record_at(image, k);
         let h = holders_at(image, k);
-        found = visit(buffer, found, w, h, live, next);
-        k += 1;
+        if (w | h) != 0 {
+            if h == 0 || !is_sound(w, h, live, next) {
+                return None;
+            }
+            buffer[count] = (w % 4294967296) as u32;
+            count += 1;
+        }
     }
-    found
+    Some(count)
 }
 
 // Whether every place is as it may be, and live numbers differ.
@@ -157,12 +130,10 @@ fn records_ok(image: &[u64]) -> bool
         (machine_of image.now).records && differ (machine_of image.now).records }
 {
     let mut buffer = [0u32; 1024];
-    let found = scan(image, &mut buffer);
-    if !found.ok {
+    let Some(count) = gather(image, &mut buffer) else {
         return false;
-    }
-    let count = found.count;
-    numbers::differ(&buffer[0..count], image[1] as u32)
+    };
+    numbers::differ(&buffer[..count], image[1] as u32)
 }
 
 // In order: item 0 lives, the next number is one, every place is as it may be, and live numbers differ.
@@ -200,15 +171,26 @@ fn is_live(image: &[u64], i: Item) -> bool
     image[0].has(i.number())
 }
 
-// Whether the ticket at that place is for the item and right of the key, and the person holds it.
-fn is_held(image: &[u64], k: usize, who: Item, key: u64) -> bool
-    requires { (length image.now ≡ ticket_words) × (k < most_tickets) × (who.0 < 64) }
-    ensures { result ≡ held_for who.0 key (ticket_at image.now k) }
+// The first place whose record and holders pass.
+fn place_where<F: Fn(u64, u64) -> bool>(image: &[u64], passes: F) -> Option<usize>
+    requires size { length image.now ≡ ticket_words }
+    requires callable { F.IsAlwaysCallable passes }
+    ensures { FirstPlace (λ w h b. F.post passes w h b) image.now result }
 {
-    if (record_at(image, k) >> 32) % 65536 != key {
-        return false;
+    for k in 0..Tickets::PLACES {
+        if passes(record_at(image, k), holders_at(image, k)) {
+            return Some(k);
+        }
     }
-    holders_at(image, k).has(who.number())
+    None
+}
+
+// Whether a ticket of these words is for the item and right of the key, and the person holds it.
+fn is_held(w: u64, h: u64, who: Item, key: u64) -> bool
+    requires { who.0 < 64 }
+    ensures { result ≡ held_for who.0 key (ticket_of w h) }
+{
+    (w >> 32) % 65536 == key && h.has(who.number())
 }
 
 // Whether the person holds a ticket for the item and right of the key.
@@ -216,14 +198,7 @@ fn holds_key(image: &[u64], who: Item, key: u64) -> bool
     requires { (length image.now ≡ ticket_words) × (who.0 < 64) }
     ensures { result ≡ any (held_for who.0 key) (machine_of image.now).records }
 {
-    let mut k: usize = 0;
-    while k < Tickets::PLACES {
-        if is_held(image, k, who, key) {
-            return true;
-        }
-        k += 1;
-    }
-    false
+    place_where(image, |w, h| is_held(w, h, who, key)).is_some()
 }
 
 // The item and the right as one number.
@@ -242,19 +217,12 @@ fn is_holder(image: &[u64], who: Item, on: Item, right: Right) -> bool
     holds_key(image, who, key_of(on, right))
 }
 
-// The first place without a live ticket; 1,024 where there is none.
-fn first_free(image: &[u64]) -> usize
+// The first place without a live ticket.
+fn first_free(image: &[u64]) -> Option<usize>
     requires { length image.now ≡ ticket_words }
-    ensures { (result ≤ most_tickets) × (result ≡ place_of is_free (machine_of image.now).records) }
+    ensures { IsPlace is_free image.now result }
 {
-    let mut k: usize = 0;
-    while k < Tickets::PLACES {
-        if holders_at(image, k) == 0 {
-            return k;
-        }
-        k += 1;
-    }
-    k
+    place_where(image, |_, h| h == 0)
 }
 
 // Whether the place has the live ticket of that number.
@@ -264,32 +232,26 @@ fn is_number(w: u64, h: u64, number: u32) -> bool
     (h != 0) & (w % 4294967296 == number as u64)
 }
 
-// The place of the live ticket of that number; 1,024 where none lives.
-fn find(image: &[u64], number: u32) -> usize
+// The place of the live ticket of that number.
+fn find(image: &[u64], number: u32) -> Option<usize>
     requires { length image.now ≡ ticket_words }
-    ensures { (result ≤ most_tickets) × (result ≡ place_of (is_number number) (machine_of image.now).records) }
+    ensures { IsPlace (is_number number) image.now result }
 {
-    let mut k: usize = 0;
-    while k < Tickets::PLACES {
-        if is_number(record_at(image, k), holders_at(image, k), number) {
-            return k;
-        }
-        k += 1;
-    }
-    k
+    place_where(image, |w, h| is_number(w, h, number))
 }
 
-// Numbers 15 and 16: no place is free, no number is left.
-fn room(place: usize, next: u64) -> Result<(), Refusal>
-    ensures { number_of result ≡ 15 when eqb place most_tickets else 16 when eqb next 4294967295 else 0 }
+// The place for a new ticket. Numbers 15 and 16: no place is free, no number is left.
+fn room(image: &[u64]) -> Result<usize, Refusal>
+    requires { length image.now ≡ ticket_words }
+    ensures { HasRoom image.now result }
 {
-    if place == Tickets::PLACES {
+    let Some(place) = first_free(image) else {
         return Err(Refusal::TicketsFull);
-    }
-    if next == Tickets::LAST {
+    };
+    if image[1] == Tickets::LAST {
         return Err(Refusal::NumbersSpent);
     }
-    Ok(())
+    Ok(place)
 }
 
 // The record of a ticket.
@@ -326,20 +288,10 @@ fn make(image: &mut [u64], by: Item, on: Item) -> Result<(), Refusal>
     if is_live(image, on) {
         return Err(Refusal::AlreadyLive);
     }
-    let place = first_free(image);
-    let a = room(place, image[1]);
-    if a.number() != 0 {
-        return a;
-    }
+    let place = room(image)?;
     image[0] = image[0].with(on.number());
     put_ticket(image, place, by, on, Right::edit());
-    a
-}
-
-fn refused(answer: Answer) -> Result<u32, Refusal>
-    ensures { (result.answer ≡ answer) × (result.number ≡ 0) }
-{
-    Generated { answer, number: 0 }
+    Ok(())
 }
 
 // generate past numbers 1 to 3: 4, 5, 17, 15, 16.
@@ -356,17 +308,10 @@ fn give(image: &mut [u64], by: Item, on: Item, right: Right) -> Result<u32, Refu
     if !is_holder(image, by, on, Right::edit()) {
         return Err(Refusal::NoTicket);
     }
-    let place = first_free(image);
-    let number = image[1];
-    let answer = room(place, number);
-    if answer.number() != 0 {
-        return refused(answer);
-    }
+    let place = room(image)?;
+    let number = image[1] as u32;
     put_ticket(image, place, by, on, right);
-    Generated {
-        answer,
-        number: number as u32,
-    }
+    Ok(number)
 }
 
 // pass past numbers 1 to 3: 4, 5, 17.
@@ -380,10 +325,9 @@ fn add_holder(image: &mut [u64], by: Item, to: Item, number: u32) -> Result<(), 
     if !is_live(image, to) {
         return Err(Refusal::NamedDead);
     }
-    let place = find(image, number);
-    if place == Tickets::PLACES {
+    let Some(place) = find(image, number) else {
         return Err(Refusal::NoTicket);
-    }
+    };
     let w = record_at(image, place);
     let h = holders_at(image, place);
     if !h.has(by.number()) {
@@ -401,10 +345,9 @@ fn end_ticket(image: &mut [u64], by: Item, number: u32) -> Result<(), Refusal>
     if !is_live(image, by) {
         return Err(Refusal::ByDead);
     }
-    let place = find(image, number);
-    if place == Tickets::PLACES {
+    let Some(place) = find(image, number) else {
         return Err(Refusal::NoTicket);
-    }
+    };
     let item = (record_at(image, place) >> 32) % 256;
     if !holds_key(image, by, item) {
         return Err(Refusal::NoTicket);
@@ -437,10 +380,8 @@ fn drop_all(image: &mut [u64], on: Item)
     ensures { image.new ≡ image_of (tickets (get_or image.old 0 0) (get_or image.old 1 0)
         (map (without on.0) (machine_of image.old).records)) }
 {
-    let mut k: usize = 0;
-    while k < Tickets::PLACES {
+    for k in 0..Tickets::PLACES {
         drop_at(image, k, on);
-        k += 1;
     }
 }
 

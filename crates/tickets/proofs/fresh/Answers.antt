@@ -5,7 +5,8 @@ use Prim.Native.Nat.{ℕ}
 use borrow.Author.Tests.{eq-eqb, ne_eqb}
 use lib.ListN.{length, set, replicate}
 use lib.Seq.{lt-length-set}
-use Rattle.model.specs.declared.Answer.TheVariants as is
+use Rattle.std.specs.Prelude.{Ok, Err}
+use Rattle.model.specs.declared.Refusal.TheVariants as is
 use Rattle.model.proofs.Answers.{numbered}
 use Rattle.ticketing.specs.Image.{ticket_words}
 use Rattle.tickets.proofs.Places.{fresh-words}
@@ -14,7 +15,7 @@ use Rattle.tickets.proofs.fresh.Goals as goal
 pub returns-then-image-ne-WORDS : goal.returns-then-image-ne-WORDS
 returns-then-image-ne-WORDS c =
     let e = ne_eqb (length c.args.image.now) ticket_words c.if-image-ne-WORDS.true in
-    (numbered is.WrongLength _ (sym (rw e)), sym (rw e))
+    (numbered (Err is.WrongLength) _ (sym (rw e)), sym (rw e))
 
 pub bounds-image-3 : goal.bounds-image-3
 bounds-image-3 c =
@@ -23,7 +24,7 @@ bounds-image-3 c =
 pub returns : goal.returns
 returns c =
     let e = eq-eqb (length c.args.image.now) ticket_words c.if-image-ne-WORDS.false in (
-      numbered is.Done _ (sym (rw e)),
+      numbered (Ok tt) _ (sym (rw e)),
       fresh-words c.clear.new.words _ _ _ (c.clear.ensures ∙ ap (λ (n : ℕ). replicate n 0) c.if-image-ne-WORDS.false)
           c.fresh-start.ensures.0 c.fresh-start.ensures.1 c.fresh-start.ensures.2 ∙ sym (rw e),
     )

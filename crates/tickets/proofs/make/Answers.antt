@@ -1,6 +1,6 @@
 -- The table's rows in their order; then the item joins the live set (`live-issued`) and a new ticket for it goes to the first free place.
 use borrow.Author.Rules.{rules}
-use mathlib.Core.Path.{◌≡◌, refl, sym, ◌∙◌, subst, ap₂}
+use mathlib.Core.Path.{◌≡◌, sym, ◌∙◌, ap₂, subst}
 use mathlib.Core.Bool.{true, false}
 use Prim.Native.Nat.{ℕ}
 use native.Mathlib.Omega.{arith}
@@ -10,6 +10,7 @@ use Rattle.model.specs.Answers.{number_of}
 use Rattle.ticketing.specs.declared.TicketCommand.TheVariants.{Create}
 use Rattle.ticketing.specs.Machine.{lives, issue}
 use Rattle.ticketing.specs.Image.{image_of, machine_of}
+use Rattle.model.proofs.Answers.{passed-on, refuses}
 use Rattle.ticketing.specs.Unit.{Judged}
 use Rattle.tickets.specs.Places.{Ready}
 use Rattle.tickets.proofs.Fields.{of_item}
@@ -31,22 +32,19 @@ returns-then-is_live c =
     let f : lives m c.args.on.0 ≡ true = sym c.is_live-2.ensures ∙ c.if-is_live.true in
     stops c.args.image.now (Create c.args.by.0 c.args.on.0) 6 (rw (e, f)) (λ z. omega arith)
 
-pub returns-then-number-ne0 : goal.returns-then-number-ne0
-returns-then-number-ne0 c =
+pub returns-in_err-place : goal.returns-in_err-place
+returns-in_err-place c =
     let m = machine_of c.args.image.now in
     let e : lives m c.args.by.0 ≡ true = sym c.is_live.ensures ∙ c.if-not-is_live.false in
     let f : lives m c.args.on.0 ≡ false = sym c.is_live-2.ensures ∙ c.if-is_live.false in
-    let v : Ready c.args.image.now c.args.by.0 c.args.on.0 0 = search rules in
-    let x = room_code c.args.image.now v.size c.first_free-place.result c.first_free-place.ensures.1 (number_of c.room-a.result) (get_or c.args.image.now 1 0) refl c.room-a.ensures in
-    stops c.args.image.now (Create c.args.by.0 c.args.on.0) (number_of c.room-a.result) (rw (e, f) (sym x)) (λ z. c.if-number-ne0.true (c.number.ensures ∙ z))
+    subst (λ r. Judged c.args.image.now (Create c.args.by.0 c.args.on.0) (number_of r) c.args.image.now)
+    (sym (passed-on _ _ c.from_residual.ensures (λ y i. i)))
+    (stops c.args.image.now (Create c.args.by.0 c.args.on.0) _ (rw (e, f) (sym c.in_err-place.ensures)) (refuses _))
 
 pub put_ticket-requires : goal.put_ticket-requires
 put_ticket-requires c =
-    let m = machine_of c.args.image.now in
     let v : Ready c.args.image.now c.args.by.0 c.args.on.0 0 = search rules in
-    let x = room_code c.args.image.now v.size c.first_free-place.result c.first_free-place.ensures.1 (number_of c.room-a.result) (get_or c.args.image.now 1 0) refl c.room-a.ensures in
-    let z : number_of c.room-a.result ≡ 0 = sym c.number.ensures ∙ c.if-number-ne0.false in
-    rw c.edit.ensures (live-room c.args.image.now _ _ c.args.by.0 c.args.on.0 0 (room-left c.args.image.now v.size c.first_free-place.result c.first_free-place.ensures.1 (number_of c.room-a.result) (get_or c.args.image.now 1 0) c.args.by.0 c.args.on.0 0 refl c.room-a.ensures z v))
+    rw c.edit.ensures (live-room c.args.image.now _ _ c.args.by.0 c.args.on.0 0 (room-left c.args.image.now v.size c.in_ok-place.ensures c.args.by.0 c.args.on.0 0 v))
 
 pub shape_of-image : goal.shape_of-image
 shape_of-image c = c.put_ticket.auto.image ∙ simp length-set
@@ -58,11 +56,8 @@ returns c =
     let e : lives m c.args.by.0 ≡ true = sym c.is_live.ensures ∙ c.if-not-is_live.false in
     let f : lives m c.args.on.0 ≡ false = sym c.is_live-2.ensures ∙ c.if-is_live.false in
     let v : Ready c.args.image.now c.args.by.0 c.args.on.0 0 = search rules in
-    let x = room_code c.args.image.now v.size c.first_free-place.result c.first_free-place.ensures.1 (number_of c.room-a.result) (get_or c.args.image.now 1 0) refl c.room-a.ensures in
-    let z : number_of c.room-a.result ≡ 0 = sym c.number.ensures ∙ c.if-number-ne0.false in
     let l : c.with.result ≡ with_bit (get_or c.args.image.now 0 0) c.args.on.0 = of_item (with_bit (get_or c.args.image.now 0 0)) c.with.result _ _
-    c.with.ensures c.number-2.ensures v.on-item in
-    subst (λ n. Judged c.args.image.now (Create c.args.by.0 c.args.on.0) n c.put_ticket.new.image) (sym z)
-    (goes c.args.image.now c.put_ticket.new.image (Create c.args.by.0 c.args.on.0) (rw (e, f) (sym x ∙ z))
+    c.with.ensures c.number.ensures v.on-item in
+    goes c.args.image.now c.put_ticket.new.image (Create c.args.by.0 c.args.on.0) (rw (e, f) (room_code c.args.image.now v.size c.in_ok-place.ensures))
     (c.put_ticket.ensures ∙ live-issued c.args.image.now c.with.result c.args.by.0 c.args.on.0 _ v.size
-    ∙ ap₂ (λ (l r : ℕ). image_of (issue (machine_of c.args.image.now) l c.args.by.0 c.args.on.0 r)) l c.edit.ensures))
+    ∙ ap₂ (λ (l r : ℕ). image_of (issue (machine_of c.args.image.now) l c.args.by.0 c.args.on.0 r)) l c.edit.ensures)

@@ -13,7 +13,6 @@ loop-k-preserved c =
     let within : c.loop-k.k < length c.args.tickets.now =
     lt_of_lt_of_le (subst (λ (n : ℕ). c.loop-k.k < n) q c.loop-k-test.true) (places_fit c.args.tickets.now c.args.who c.args.on c.args.right) in record {
       asked = c.loop-k.invariant.asked;
-      within = omega arith;
       found = find_goes c.args.tickets.now c.args.who c.args.on c.args.right c.loop-k.k c.loop-k.found c.look-found.result within
           c.loop-k.invariant.found
           (c.look-found.ensures ∙ ap (λ (r : Inquiry). found_of r c.loop-k.found (get_or c.args.tickets.now c.loop-k.k vacant)) c.loop-k.invariant.asked);

@@ -8,7 +8,6 @@ pub loop-k-preserved : goal.loop-k-preserved
 loop-k-preserved c =
     let q = ap (λ (r : Reading). r.count) c.loop-k.invariant.judged in record {
       judged = c.loop-k.invariant.judged;
-      within = omega arith;
       filled = fill_goes c.args.image.now c.args.tickets.now c.loop-k.k c.loop-k.tickets c.ticket_of.result
           (subst (λ (n : ℕ). c.loop-k.k < n) q c.loop-k-test.true) c.loop-k.invariant.filled c.ticket_of.ensures;
     }

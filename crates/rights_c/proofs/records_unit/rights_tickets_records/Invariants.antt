@@ -1,5 +1,5 @@
 -- After k turns the first k structs are the image's (`Facts`); where reading is refused no turn is made, and the slice is as it was.
-use Rattle.std.proofs.Common.{◌-◌, ◌≡◌, ◌≤◌, length}
+use Rattle.std.proofs.Common.{◌≡◌, length}
 use Rattle.records.specs.Records.{reading_of}
 use Rattle.records.proofs.Filling.{Facts}
 use Rattle.rights_c.proofs.records_unit.rights_tickets_records.Given as goal
@@ -7,9 +7,5 @@ use Rattle.rights_c.proofs.records_unit.rights_tickets_records.Given as goal
 abbrev pub invariant-loop-k : goal.invariant-loop-k
 invariant-loop-k l = record {
   judged : l.r ≡ reading_of l.image (length l.initial.tickets);
-  within : l.k ≤ l.r.count;
   filled : Facts l.image l.initial.tickets l.k l.tickets;
 }
-
-abbrev pub decreases-loop-k : goal.decreases-loop-k
-decreases-loop-k l = l.r.count - l.k
