@@ -70,6 +70,10 @@ module _ (L : Layout) (s : List ℕ) where
   pub order-length : (length s ≡ L.cells → ⊥) → 1 ≡ guarded L s 0
   order-length h = rw (ne_eqb (length s) L.cells h)
 
+  -- of a buffer of m cells, where the layout has n
+  pub order-cells : (m n : ℕ) → length s ≡ m → L.cells ≡ n → (m ≡ n → ⊥) → 1 ≡ guarded L s 0
+  order-cells m n l k h = order-length (λ e. h (sym l ∙ e ∙ k))
+
   pub order_broken : length s ≡ L.cells → is_in_order L s ≡ false → 2 ≡ guarded L s 0
   order_broken l e = rw (eq-eqb (length s) L.cells l, e)
 
