@@ -1,36 +1,32 @@
 -- What numbers 1 to 3 refuse and what they let through, in any unit: the number of a command and that of a check go by the same tests in
 -- the same order, so a refusal has its number, and past them the number is the one that the unit gives.
-use mathlib.Core.Path.{◌≡◌, refl, sym, ap, ◌∙◌, subst}
+use mathlib.Core.Path.{◌≡◌, refl, sym, ◌∙◌, subst}
 use mathlib.Core.Bool.{Bool, true, false, not, ◌&&◌}
 use mathlib.Core.List.{List}
-use Prim.Native.Nat.{ℕ, ◌<◌}
+use Prim.Native.Nat.{ℕ}
 use native.Mathlib.Omega.{arith}
 use borrow.Author.Tests.{ne_eqb, eqb-true, eqb-false}
 use lib.ListN.{length}
 use lib.Dec.{eqb}
 use Rattle.bits.proofs.Sets.{by_cases}
 use Rattle.model.specs.declared.Command.{Command}
-use Rattle.model.specs.declared.Item.{Item}
-use Rattle.model.specs.declared.Right.{Right}
 use Rattle.model.specs.declared.Question.TheVariants as question
 use Rattle.model.specs.declared.Answer.{Answer}
 use Rattle.model.specs.declared.Answer.TheVariants as is
 use Rattle.model.specs.declared.Outcome.{Outcome}
-use Rattle.model.specs.declared.Checked.{Checked}
 use Rattle.model.specs.declared.Checked.TheVariants as checked
 use Rattle.model.specs.Commands.{arguments_of, typed_of, raw_of, fits, items, right_depth, question_of, Ranged}
-use Rattle.model.specs.Answers.{asked, table, number_of, refusal, Returns, checked_of, ◌when◌else◌}
+use Rattle.model.specs.Answers.{asked, table, number_of, refusal, Returns, ◌when◌else◌}
 use Rattle.model.proofs.Answers.{numbered, checked_refused}
-use Rattle.model.proofs.Commands.{ranged_command, question-asked, asked-ranged}
+use Rattle.model.proofs.Commands.{ranged_command}
 use Rattle.layouts.specs.declared.admit.CommandAdmission.{CommandAdmission}
 use Rattle.layouts.specs.declared.admit.CommandAdmission.TheVariants as command
 use Rattle.layouts.specs.declared.admit.CheckAdmission.{CheckAdmission}
 use Rattle.layouts.specs.declared.admit.CheckAdmission.TheVariants as check
 use Rattle.layouts.specs.Machine.{Machine, guarded_by, answer_of, judged_in, Judged, Ran, RanCounting}
 use Rattle.layouts.specs.Admission.{admission, command_admission, check_admission}
-use Rattle.layouts.specs.Layouts.{Layout, is_in_order, guarded, held, Checks}
+use Rattle.layouts.specs.Layouts.{Layout, is_in_order, guarded, Checks}
 use Rattle.layouts.proofs.Guarding.{guard_off, guard_on}
-use Rattle.layouts.proofs.Ends.{readable}
 
 module _ {A : Type 0} (order : Answer) (within : Bool) (refused : Answer → A) (ready : A) where
   -- what holds past the three, and of a refusal by its number, holds of what is admitted; n: the number after 3
@@ -108,15 +104,3 @@ module _ (L : Layout) (s : List ℕ) (p o r : ℕ) (order : Answer) (e : number_
   check_refused a h =
       let n = check_admitted (eqb (length s) L.cells) (is_in_order L s) p o r order e (check.Refused a) h in
       (checked_refused a _ _ n.0 (λ z. n.1 (n.0 ∙ z)), refl)
-
-  module _ (x y : Item) (z : Right) (h : check.Ready x y z ≡ check_admission order p o r) where
-    ready : Asks (eqb (length s) L.cells) (is_in_order L s) p o r (check.Ready x y z)
-    ready = check_admitted (eqb (length s) L.cells) (is_in_order L s) p o r order e (check.Ready x y z) h
-
-    pub check_reads : (length s ≡ L.cells) × (x.0 < 64) × (y.0 < 64) × (z.0 < 8)
-    check_reads = let b = asked-ranged p o r x y z ready.2 in (readable L s ready.0, b.0, b.1, b.2)
-
-    pub check_says : (a : Checked) (b : Bool) → b ≡ held L s x.0 y.0 z.0 → a ≡ checked_of 0 b → Checks L s p o r a s
-    check_says a b k q =
-        let i = question-asked p o r x y z ready.2 in
-        (q ∙ rw ready.1 (ap (checked_of 0) (k ∙ rw (i.1, i.2, i.3))), refl)

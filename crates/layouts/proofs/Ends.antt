@@ -12,12 +12,10 @@ use Rattle.model.specs.declared.Facts.{Facts}
 use Rattle.model.specs.declared.Answer.{Answer}
 use Rattle.model.specs.declared.Answer.TheVariants as is
 use Rattle.model.specs.declared.Checked.{Checked}
-use Rattle.model.specs.declared.Offered.TheVariants as offered
-use Rattle.bits.specs.Sets.{all}
-use Rattle.model.specs.Commands.{arguments_of, members_of}
-use Rattle.layouts.specs.Machine.{Machine, answer_of, judged_in, Judged, Ran, Offers}
+use Rattle.model.specs.Commands.{arguments_of}
+use Rattle.layouts.specs.Machine.{Machine, answer_of, judged_in, Judged}
 use Rattle.model.specs.Answers.{table, number_of, answer_for, refusal, Returns, checked_number, checked_yes}
-use Rattle.layouts.specs.Layouts.{Layout, is_in_order, guarded, facts_of, flat_unit, live_in, held, check_number, check_yes, Checks, Inspects, Freshens, fresh_image}
+use Rattle.layouts.specs.Layouts.{Layout, is_in_order, guarded, facts_of, flat_unit, held, check_number, check_yes, Checks, Inspects, Freshens, fresh_image}
 use Rattle.layouts.specs.Subjects.{subjects_of, Tells}
 use Rattle.model.proofs.Answers.{numbered, Known, number_for, table-known, answer-known, checked_number_lem, checked_yes_lem}
 use Rattle.layouts.proofs.Guarding.{guard_passed, guard_known, check_guard_known}
@@ -53,29 +51,15 @@ module _ {S : Type 0} (M : Machine S) (s : S) where
         → x ≡ M.after s a → Judged M s a (number_of r) x
     judged_goes f r m x e p q h u = let k = counting_goes f r m (M.counts s a) x e p q h u refl in (k.0.0, k.2)
 
-  module _ (c : Command) where
-    -- a command that is offered
-    pub offers_ran : (r : Answer) (x : S) → M.has c ≡ true → Ran M s c r x → Offers M s c (offered.Answered r) x
-    offers_ran r x h k = rw h (ap offered.Answered k.0.1, k.1)
-
-    pub offers_passed : M.has c ≡ false → Offers M s c offered.Passed s
-    offers_passed h = rw h (refl, refl)
-
 -- ---- any layout
 module _ (L : Layout) (s : List ℕ) where
   -- an image that may be read
   pub readable : guarded L s 0 ≡ 0 → length s ≡ L.cells
   readable e = eqb-true (length s) L.cells (guard_passed (eqb (length s) L.cells) (is_in_order L s) e).0
 
-  pub order-length : (length s ≡ L.cells → ⊥) → 1 ≡ guarded L s 0
-  order-length h = rw (ne_eqb (length s) L.cells h)
-
-  -- of a buffer of m cells, where the layout has n
-  pub order-cells : (m n : ℕ) → length s ≡ m → L.cells ≡ n → (m ≡ n → ⊥) → 1 ≡ guarded L s 0
-  order-cells m n l k h = order-length (λ e. h (sym l ∙ e ∙ k))
-
-  pub order_broken : length s ≡ L.cells → is_in_order L s ≡ false → 2 ≡ guarded L s 0
-  order_broken l e = rw (eq-eqb (length s) L.cells l, e)
+  -- a buffer of m cells, where the layout has n
+  pub order-length : (m n : ℕ) → length s ≡ m → L.cells ≡ n → (m ≡ n → ⊥) → 1 ≡ guarded L s 0
+  order-length m n l k h = rw (ne_eqb (length s) L.cells (λ e. h (sym l ∙ e ∙ k)))
 
   pub order_done : length s ≡ L.cells → is_in_order L s ≡ true → 0 ≡ guarded L s 0
   order_done l e = rw (eq-eqb (length s) L.cells l, e)
@@ -98,12 +82,6 @@ module _ (L : Layout) (s : List ℕ) where
   pub subjects_are : (r : Answer) (p : ℕ) → number_of r ≡ guarded L s 0 → number_of r ≡ 0 → p ≡ subjects_of L s
       → Tells L s (record { answer = r; persons = p }) s
   subjects_are r p e z q = (numbered r _ e, q ∙ sym (rw (← e, z)), refl)
-
-  pub facts-are : (a : Arguments) (r : ℕ) (x y z m w : Bool) → r ≡ 0
-      → x ≡ live_in L s a.by → y ≡ live_in L s a.on → z ≡ live_in L s a.to
-      → m ≡ all (live_in L s) (members_of a.set) → w ≡ held L s a.by a.on r
-      → ◌≡◌ {A = Facts} (record { by = x; on = y; to = z; members = m; edits = w; back = false; past = false; full = false }) (facts_of L s a)
-  facts-are a r x y z m w er ex ey ez em ew = rw (ex, ey, ez, em, ew, er)
 
 -- ---- every number that a unit gives is some answer's
 pub flat-known : (L : Layout) (s : List ℕ) (c : Command) → Known (answer_of (flat_unit L) s c)

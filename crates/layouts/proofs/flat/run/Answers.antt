@@ -6,7 +6,7 @@ use Rattle.model.specs.declared.Answer.TheVariants as is
 use Rattle.layouts.specs.declared.admit.CommandAdmission.TheVariants as command
 use Rattle.layouts.specs.Machine.{Ran}
 use Rattle.layouts.specs.Layouts.{flat_unit}
-use Rattle.layouts.proofs.Ends.{order-cells}
+use Rattle.layouts.proofs.Ends.{order-length}
 use Rattle.layouts.proofs.Admission.{command_admitted}
 use Rattle.layouts.proofs.flat.run.Goals as goal
 
@@ -14,7 +14,7 @@ pub returns-in_default : goal.returns-in_default
 returns-in_default g c =
     let law = g.met.U.FlatUnit in
     command_admitted (flat_unit g.U.FlatUnit.layout) _ c.args.c is.WrongLength
-    (order-cells _ _ _ _ (law.lengths _) law.sized c.in_default.ensures.cases) (command.Refused _) refl
+    (order-length _ _ _ _ (law.lengths _) law.sized c.in_default.ensures.cases) (command.Refused _) refl
 
 pub settle-requires : goal.settle-requires
 settle-requires g c = (

@@ -3,13 +3,13 @@
 use mathlib.Core.Path.{sym, ◌∙◌}
 use native.Mathlib.Omega.{arith}
 use Rattle.model.specs.declared.Answer.TheVariants as is
-use Rattle.layouts.proofs.Ends.{order-cells, subjects_stop, subjects_are}
+use Rattle.layouts.proofs.Ends.{order-length, subjects_stop, subjects_are}
 use Rattle.layouts.proofs.flat.FlatUnit.subjects.Goals as goal
 
 pub returns-in_default : goal.returns-in_default
 returns-in_default g c =
     let law = g.met.Self.FlatUnit in
-    subjects_stop _ _ is.WrongLength (order-cells _ _ _ _ (law.lengths _) law.sized c.in_default.ensures.cases)
+    subjects_stop _ _ is.WrongLength (order-length _ _ _ _ (law.lengths _) law.sized c.in_default.ensures.cases)
     (λ z. omega arith)
 
 pub returns-then-number-ne0 : goal.returns-then-number-ne0
