@@ -25,14 +25,16 @@ settle-requires g c = (
 
 pub returns-in-Refused : goal.returns-in-Refused
 returns-in-Refused g c =
+    let L = g.U.FlatUnit.layout in
     let cells = g.U.FlatUnit.cells in
-    subst (λ s. Ran (flat_unit g.U.FlatUnit.layout) (cells s) c.args.c c.in-Refused.r (cells c.in-Some.image.now)) c.in-Some.ensures.cases.same
-    (command_admitted (flat_unit g.U.FlatUnit.layout) _ c.args.c c.order.result c.order.ensures (command.Refused _)
+    subst (λ s. Ran (flat_unit L) (cells s) c.args.c c.in-Refused.r (cells c.in-Some.image.now)) c.in-Some.ensures.cases.same
+    (command_admitted (flat_unit L) _ c.args.c c.order.result c.order.ensures (command.Refused _)
     (sym c.in-Refused.is ∙ c.command.ensures))
 
 pub returns-in-Ready : goal.returns-in-Ready
 returns-in-Ready g c =
+    let L = g.U.FlatUnit.layout in
     let cells = g.U.FlatUnit.cells in
-    subst (λ s. Ran (flat_unit g.U.FlatUnit.layout) (cells s) c.args.c c.settle.result (cells c.settle.new.image)) c.in-Some.ensures.cases.same
-    ((command_admitted (flat_unit g.U.FlatUnit.layout) _ c.args.c c.order.result c.order.ensures (command.Ready _)
+    subst (λ s. Ran (flat_unit L) (cells s) c.args.c c.settle.result (cells c.settle.new.image)) c.in-Some.ensures.cases.same
+    ((command_admitted (flat_unit L) _ c.args.c c.order.result c.order.ensures (command.Ready _)
     (sym c.in-Ready.is ∙ c.command.ensures)).2 _ _ c.settle.ensures)
