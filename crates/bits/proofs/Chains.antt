@@ -1,24 +1,12 @@
 -- What a chain of iterators returns, in the words of `Sets`.
 use mathlib.Core.Path.{◌≡◌, refl, ap, ap₂, ◌∙◌, sym}
-use mathlib.Core.Bool.{Bool, ◌&&◌, ◌||◌, and_comm, and-true}
-use mathlib.Core.List.{List, [], ◌∷◌}
+use mathlib.Core.Bool.{Bool, ◌&&◌, and_comm, and-true}
 use Prim.Native.Nat.{ℕ, zero, suc, ◌+◌}
 use native.Mathlib.Nat.{zero-add}
 use native.Mathlib.Omega.{arith}
-use Rattle.std.specs.List.{list_any, list_all, range_with_len}
-use Rattle.bits.specs.Sets.{any, all, all_below}
+use Rattle.std.specs.List.{list_all, range_with_len}
+use Rattle.bits.specs.Sets.{all_below}
 use Rattle.bits.proofs.Indexed.{below-add, below_ext}
-
-module _ {A : Type 0} (p : A → Bool) where
-  pub any-list : (xs : List A) → list_any p xs ≡ any p xs
-  unfolding any
-  any-list [] = refl
-  any-list (x ∷ xs) = ap (λ b. p x || b) (any-list xs)
-
-  pub all-list : (xs : List A) → list_all p xs ≡ all p xs
-  unfolding all
-  all-list [] = refl
-  all-list (x ∷ xs) = ap (λ b. p x && b) (all-list xs)
 
 -- n numbers from a on
 all-from : (f : ℕ → Bool) (a n : ℕ) → list_all f (range_with_len a n) ≡ all_below n (λ i. f (a + i))

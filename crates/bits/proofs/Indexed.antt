@@ -95,10 +95,6 @@ module _ {A : Type 0} (p : A → Bool) (s : List A) (i : ℕ) (d : A) where
   unfolding all
   all-next h = rw (drop-cons s i d, add-one i)
 
-  pub any_next : i < length s → any p (drop i s) ≡ p (get_or s i d) || any p (drop (i + 1) s)
-  unfolding any
-  any_next h = rw (drop-cons s i d, add-one i)
-
   pub none-next : i < length s → not (any p (drop i s)) ≡ not (p (get_or s i d)) && not (any p (drop (i + 1) s))
   unfolding any
   none-next h = rw (drop-cons s i d, add-one i) (neither (p (get_or s i d)) (any p (drop (suc i) s)))

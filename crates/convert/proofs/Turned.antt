@@ -1,24 +1,27 @@
 -- Where each bit of a conversion comes from, and what a turn of its loops puts in.
 use mathlib.Core.Path.{◌≡◌, refl, sym, ap, ap₂, ◌∙◌}
 use mathlib.Core.Bool.{Bool, true, false, not, ◌&&◌, cond, false≢true, and_comm, and-true}
-use mathlib.Core.List.{List}
-use Prim.Native.Nat.{ℕ, ◌+◌, ◌-◌, ◌*◌, ◌/◌, ◌%◌, ◌^◌, ◌≤◌, ◌<◌}
+use mathlib.Core.List.{List, [], ◌∷◌}
+use Prim.Native.Nat.{ℕ, suc, ◌+◌, ◌-◌, ◌*◌, ◌/◌, ◌%◌, ◌^◌, ◌≤◌, ◌<◌}
 use native.Mathlib.Omega.{arith}
-use borrow.Author.Tests.{le-leb, leb-true, eq-eqb, eqb-true, ltb-true, ltb-false, not-true}
+use borrow.Author.Tests.{le-leb, leb-true, eq-eqb, eqb-true, not-true}
 use lib.ListN.{length, get_or, set, length-set}
 use lib.Seq.{get_or-set_same, get_or-set_other}
-use lib.Dec.{eqb, ltb, leb}
+use lib.Dec.{eqb, leb}
 use lib.Bits.{bit_and, and_le_l}
-use lib.Pow.{pow_mono, pow-add}
 use Rattle.bits.specs.Sets.{all_below}
 use Rattle.bits.specs.Bits.{bit, with_bit, without_bit, of_bits}
 use Rattle.bits.specs.Cells.{at}
 use Rattle.layouts.specs.Layouts.{lists, rows}
 use Rattle.layouts.specs.Convert.{convert}
-use Rattle.bits.proofs.Sets.{iff, fst, snd, both, by_cases}
+use Rattle.bits.proofs.Sets.{iff, fst, snd, both}
 use Rattle.bits.proofs.Indexed.{below_elim, below_none, below_suc}
-use Rattle.bits.proofs.Bits.{ext, of_bits_lt, bit-of_bits, of_bits_cong, bit-and, bit_complement, bit_of_zero}
-use Rattle.bits.proofs.Lowest.{bit_block}
+use Rattle.bits.proofs.Bits.{ext, bit-without, of_bits_lt, bit-of_bits, of_bits_cong, bit-and, bit_complement, bit_of_zero}
+use Rattle.bits.proofs.Lowest.{bit-part}
+use Rattle.bits.proofs.Eight.{byte_of}
+use Rattle.std.specs.Int.{w64, to_le_bytes}
+use Rattle.std.specs.List.{fold}
+use native.Mathlib.Nat.{mod-lt}
 use Rattle.layouts.proofs.Edits.{lists-flat, rows-flat}
 use Rattle.bits.proofs.Marks.{cell_bit, cells-set}
 use Rattle.layouts.proofs.Convert.{convert-live, convert-bit, convert-length, convert-cells, convert_cell}
@@ -26,13 +29,13 @@ use Rattle.convert.specs.Blocks.{lacking, ahead, full_on, stage}
 use Rattle.convert.proofs.Pending.{pending, placed, lacking-length, lacking-cells, open_block, close_block, put-place, put-bit, end_blocks, at-put, begin_cells}
 
 -- ---- lists to rows: the persons of every list so far
-pub full-none : (f : ℕ → ℕ) → 18446744073709551615 ≡ of_bits 64 (λ p. all_below 0 (λ r. bit (f r) p))
+full-none : (f : ℕ → ℕ) → 18446744073709551615 ≡ of_bits 64 (λ p. all_below 0 (λ r. bit (f r) p))
 full-none f =
     ext 64 18446744073709551615 _ (omega arith) (of_bits_lt 64 _)
     (λ i l. bit_complement 64 0 i (omega arith) l ∙ ap not (bit_of_zero i)
     ∙ sym (bit-of_bits 64 (λ p. all_below 0 (λ r. bit (f r) p)) i l ∙ below_none _))
 
-pub full_more : (bits x n : ℕ) (f : ℕ → ℕ) → bits ≡ of_bits 64 (λ p. all_below n (λ r. bit (f r) p)) → x ≡ f n
+full_more : (bits x n : ℕ) (f : ℕ → ℕ) → bits ≡ of_bits 64 (λ p. all_below n (λ r. bit (f r) p)) → x ≡ f n
     → bit_and bits x ≡ of_bits 64 (λ p. all_below (n + 1) (λ r. bit (f r) p))
 full_more bits x n f e d =
     ext 64 (bit_and bits x) _ (omega (arith, and_le_l bits x, of_bits_lt 64 (λ p. all_below n (λ r. bit (f r) p)))) (of_bits_lt 64 _)
@@ -40,6 +43,27 @@ full_more bits x n f e d =
     ∙ ap₂ ◌&&◌ (ap (λ (y : ℕ). bit y i) e ∙ bit-of_bits 64 (λ p. all_below n (λ r. bit (f r) p)) i l) (ap (λ (y : ℕ). bit y i) d)
     ∙ and_comm (all_below n (λ r. bit (f r) i)) (bit (f n) i) ∙ sym (below_suc n (λ r. bit (f r) i))
     ∙ sym (bit-of_bits 64 (λ p. all_below (n + 1) (λ r. bit (f r) p)) i l))
+
+-- a list more, and each of the lists from one on
+full_fold : (xs : List ℕ) (bits n : ℕ) (f : ℕ → ℕ) → bits ≡ of_bits 64 (λ p. all_below n (λ r. bit (f r) p))
+    → ((k : ℕ) → k < length xs → get_or xs k 0 ≡ f (n + k)) → fold bit_and bits xs ≡ of_bits 64 (λ p. all_below (n + length xs) (λ r. bit (f r) p))
+full_fold [] bits n f e g = let z : n ≡ n + 0 = omega arith in e ∙ ap (λ (m : ℕ). of_bits 64 (λ p. all_below m (λ r. bit (f r) p))) z
+full_fold (x ∷ xs) bits n f e g =
+    let z : n + 1 + length xs ≡ n + suc (length xs) = omega arith in
+    let y : n + 0 ≡ n = omega arith in
+    full_fold xs (bit_and bits x) (n + 1) f (full_more bits x n f e (g 0 (omega arith) ∙ ap f y))
+    (λ k l. g (suc k) (omega arith) ∙ ap f (let q : n + suc k ≡ n + 1 + k = omega arith in q))
+    ∙ ap (λ (m : ℕ). of_bits 64 (λ p. all_below m (λ r. bit (f r) p))) z
+
+pub full_fold_all : (xs : List ℕ) (f : ℕ → ℕ) → length xs ≡ 8 → ((k : ℕ) → k < 8 → get_or xs k 0 ≡ f k)
+    → fold bit_and 18446744073709551615 xs ≡ of_bits 64 (λ p. all_below 8 (λ r. bit (f r) p))
+full_fold_all xs f l g =
+    full_fold xs 18446744073709551615 0 f (full-none f) (λ k h. g k (omega arith) ∙ ap f (let q : k ≡ 0 + k = omega arith in q))
+    ∙ ap (λ (m : ℕ). of_bits 64 (λ p. all_below m (λ r. bit (f r) p))) (let q : 0 + length xs ≡ 8 = omega arith in q)
+
+-- a bit that is left is one of those before
+pub left_bit : (rest left b i : ℕ) → left ≡ without_bit rest b → bit left i ≡ true → bit rest i ≡ true
+left_bit rest left b i e h = fst (bit rest i) (not (eqb i b)) (sym (bit-without rest b i) ∙ ap (λ (x : ℕ). bit x i) (sym e) ∙ h)
 
 -- the bit of a right in lists
 in_list : (p on b : ℕ) → p < 64 → on < 64 → b < 8
@@ -62,11 +86,22 @@ nine i on x r true h l e = (omega arith, omega arith)
 nine i on x r false h l e = (omega arith, omega arith)
 
 module _ (s : List ℕ) where
-  pub row-live : (k b : ℕ) → k < 8 → b < 8 → at 8 (convert lists rows s) (k * 8 + b) ≡ bit (get_or s 0 0) ((8 * k + b) % 64)
+  row-live : (k b : ℕ) → k < 8 → b < 8 → at 8 (convert lists rows s) (k * 8 + b) ≡ bit (get_or s 0 0) ((8 * k + b) % 64)
   unfolding lists rows
   row-live k b h l =
       convert-live lists rows lists-flat rows-flat s (k * 8 + b) (le-leb (k * 8 + b) 63 (omega arith))
       ∙ cell_bit 64 (omega arith) s 0 ((8 * k + b) % 64) (omega arith) (k * 8 + b) (omega arith)
+
+  -- a byte of the live set
+  pub live_byte : (k : ℕ) → k < 8 → get_or s 0 0 < 2 ^ 64 → get_or (to_le_bytes w64 (get_or s 0 0)) k 0 ≡ get_or (convert lists rows s) k 0
+  unfolding lists rows
+  live_byte k h f =
+      byte_of (get_or s 0 0) k h
+      ∙ ext 8 _ (of_bits 8 (λ (b : ℕ). at 8 (convert lists rows s) (k * 8 + b))) (mod-lt _ (omega arith)) (of_bits_lt 8 _)
+      (λ b l. bit-part (get_or s 0 0) (8 * k) 8 b l
+      ∙ ap (bit (get_or s 0 0)) (let z : 8 * k + b ≡ (8 * k + b) % 64 = omega arith in z)
+      ∙ sym (bit-of_bits 8 (λ (b : ℕ). at 8 (convert lists rows s) (k * 8 + b)) b l ∙ row-live k b h l))
+      ∙ convert_cell lists rows lists-flat rows-flat s k (omega arith)
 
   row-grant : (p on b : ℕ) → p < 64 → on < 64 → b < 8
       → at 8 (convert lists rows s) ((8 + 64 * p + on) * 8 + b) ≡ bit (get_or s (1 + 8 * on + b) 0) (p % 64)
@@ -224,34 +259,6 @@ module _ (s : List ℕ) where
       last : (i r : ℕ) (v : Bool) → i < 64 → r < 8 → 9 * i + cond v 0 (1 + r) < 576
       last i r true h k = omega arith
       last i r false h k = omega arith
-
--- ---- eight bytes as a word
-module _ (s : List ℕ) (first n bits x : ℕ) (l : n < 8) (e : bits ≡ of_bits (8 * n) (λ i. at 8 s (8 * (first + 8 - n) + i))) where
-  pub eight-room : bits < 72057594037927936
-  eight-room =
-      let m : 2 ^ (8 * n) ≤ 2 ^ 56 = pow_mono (let z : 8 * n ≤ 56 = omega arith in z) in
-      omega (arith, of_bits_lt (8 * n) (λ i. at 8 s (8 * (first + 8 - n) + i)))
-
-  pub eight_more : x < 256 → x ≡ get_or s (first + 7 - n) 0
-      → bits * 256 + x ≡ of_bits (8 * (n + 1)) (λ i. at 8 s (8 * (first + 8 - (n + 1)) + i))
-  eight_more h q =
-      ext (8 * (n + 1)) (bits * 256 + x) _ small (of_bits_lt (8 * (n + 1)) _)
-      (λ i b. bit_block 8 bits x i h ∙ each i b ∙ sym (bit-of_bits (8 * (n + 1)) (λ i. at 8 s (8 * (first + 8 - (n + 1)) + i)) i b))
-    where
-      small : bits * 256 + x < 2 ^ (8 * (n + 1))
-      small =
-          let p : 2 ^ (8 * (n + 1)) ≡ 2 ^ (8 * n) * 2 ^ 8 = ap (λ (k : ℕ). 2 ^ k) (let z : 8 * (n + 1) ≡ 8 * n + 8 = omega arith in z)
-          ∙ pow-add 2 (8 * n) 8 in
-          omega (arith, of_bits_lt (8 * n) (λ i. at 8 s (8 * (first + 8 - n) + i)))
-
-      each : (i : ℕ) → i < 8 * (n + 1) → cond (ltb i 8) (bit x i) (bit bits (i - 8)) ≡ at 8 s (8 * (first + 8 - (n + 1)) + i)
-      each i b =
-          by_cases (ltb i 8)
-          (λ t. let u = ltb-true i 8 t in
-          rw (t, q) (sym (cell_bit 8 (omega arith) s (first + 7 - n) i u (8 * (first + 8 - (n + 1)) + i) (omega arith))))
-          (λ t. let u = ltb-false i 8 t in
-          rw (t, e) (bit-of_bits (8 * n) (λ i. at 8 s (8 * (first + 8 - n) + i)) (i - 8) (omega arith)
-          ∙ ap (at 8 s) (let z : 8 * (first + 8 - n) + (i - 8) ≡ 8 * (first + 8 - (n + 1)) + i = omega arith in z)))
 
 -- ---- rows to lists: the block of a place, which is eight bytes of a row, and its place in the block
 abbrev pub eights : ℕ → ℕ

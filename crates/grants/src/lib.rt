@@ -9,7 +9,7 @@ ghost use Rattle.model.specs.Journal.{grant};
 ghost use Rattle.layouts.specs.Live.{masks_of};
 ghost use Rattle.layouts.specs.Layouts.{grant_bytes, grant_cells, held, is_in_order, created, deleted, allowed, allowed_set, dropped, withdrawn, fresh_image, fresh_of};
 
-use bits::{bytes, Word};
+use bits::{Word, bytes};
 use layouts::live;
 use model::{Depth, Item, ItemSet, Right};
 

@@ -161,10 +161,14 @@ module _ (L M : Layout) (s t : List ℕ) where
   pub convert-short : (length t ≡ M.cells → ⊥) → Converts L M s t is.WrongLength s t
   convert-short h = rw (ne_eqb (length t) M.cells h, and-false (eqb (length s) L.cells)) (numbered is.WrongLength 1 refl, refl, refl)
 
+  -- s has
+  pub source-short : (length s ≡ L.cells → ⊥) → Converts L M s t is.WrongLength s t
+  source-short h = rw (ne_eqb (length s) L.cells h) (numbered is.WrongLength 1 refl, refl, refl)
+
   judged : length t ≡ M.cells → convert_number L M s t ≡ guarded L s 0
   judged l = rw (eq-eqb (length t) M.cells l, and-true (eqb (length s) L.cells))
 
-  -- s has, or is not in order
+  -- s is refused
   pub convert_stops : (r : Answer) → length t ≡ M.cells → number_of r ≡ guarded L s 0 → (number_of r ≡ 0 → ⊥) → Converts L M s t r s t
   convert_stops r l e h =
       let q : number_of r ≡ convert_number L M s t = e ∙ sym (judged l) in

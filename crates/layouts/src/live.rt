@@ -2,7 +2,7 @@
 ghost use Rattle.std.specs.Prelude.{◌≡◌, cond, ◌+◌, ◌*◌, ◌/◌, ◌%◌, ◌≤◌, ◌<◌, eqb, length, get_or, set};
 ghost use Rattle.std.specs.Int.Bits.{bit_and, bit_or};
 ghost use Rattle.model.specs.Commands.{members_of};
-ghost use Rattle.bits.specs.Sets.{all, all_below};
+ghost use Rattle.bits.specs.Sets.{all, tabulate, all_below};
 ghost use Rattle.bits.specs.Bits.{with_bit, without_bit, of_bits};
 ghost use Rattle.bits.specs.Cells.{at};
 ghost use Rattle.layouts.specs.Live.{masks_of};
@@ -55,11 +55,18 @@ pub fn remove(image: &mut [u8], item: Item)
     change(image, item, |byte, i| byte.without(i));
 }
 
+// The bytes of the live set; 0 where the buffer ends before.
+fn live_bytes(image: &[u8]) -> [u8; 8]
+    ensures { result ≡ tabulate 8 (λ k. get_or image.now k 0) }
+{
+    array::from_fn(|k| byte_at(image, k))
+}
+
 // The live set as a number: items whose bits the buffer does not have are dead.
 fn live_set(image: &[u8]) -> u64
     ensures { result ≡ of_bits 64 (at 8 image.now) }
 {
-    u64::from_le_bytes(array::from_fn(|k| byte_at(image, k)))
+    u64::from_le_bytes(live_bytes(image))
 }
 
 // Whether every member of the set lives; none does where the buffer ends before its bit. Most commands have no set, so the empty one is
@@ -70,12 +77,18 @@ pub fn are_live(image: &[u8], set: ItemSet) -> bool
     set.is_empty() || set.number() & !live_set(image) == 0
 }
 
+fn mask_of(live: bool) -> u8
+    ensures { result ≡ cond live 0 255 }
+{
+    if live { 0 } else { 255 }
+}
+
 // For each item a mask that shows all of a byte where the item is dead, and nothing where it lives.
 pub fn masks(image: &[u8]) -> [u8; 64]
     ensures { result ≡ masks_of image.now }
 {
-    let live = live_set(image);
-    array::from_fn(|i| if live.has(i as u32) { 0 } else { 255 })
+    let live = live_bytes(image);
+    array::from_fn(|i| mask_of(live[i / 8].has(i as u32)))
 }
 
 // Whether the masks show nothing of eight rows of 64 bytes: `all` masks every byte, masks[p] byte p of each row. No exit within.

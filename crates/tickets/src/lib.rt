@@ -14,7 +14,7 @@ ghost use Rattle.ticketing.specs.Image.{ticket_words, word_of, ticket_of, ticket
 ghost use Rattle.ticketing.specs.Unit.{guarded, Judged, Ran, Generates, Inspects, Checks, fresh_image, Freshens};
 ghost use Rattle.tickets.specs.Places.{key_of, held_for, place_of, is_free, live_numbers, Ready, Issued, JudgedGenerate, placed, placed_ticket, Visited};
 
-use bits::{words, Word};
+use bits::{Word, words};
 use layouts::admit;
 use layouts::admit::CheckAdmission;
 use model::{Answer, Checked, Item, Right};

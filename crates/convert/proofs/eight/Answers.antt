@@ -1,42 +1,24 @@
--- After n turns the number holds the highest n of the eight bytes, so before each turn it is below 2 ^ 56 and does not overflow
--- (`eight-room`); a turn puts the next byte below them (`eight_more`). At the end n is 8.
-use mathlib.Core.Path.{◌≡◌, refl, ap, ◌∙◌}
-use Prim.Native.Nat.{◌+◌, ◌-◌, ◌*◌}
+-- The bits of byte k of the eight are those of the bytes' bits from 8 * k on.
 use native.Mathlib.Omega.{arith}
 use borrow.Author.Rules.{rules}
-use Rattle.bits.specs.Bits.{of_bits}
+use mathlib.Core.Path.{◌≡◌, sym, ap, ◌∙◌}
+use mathlib.Core.List.{List}
+use Prim.Native.Nat.{ℕ, ◌+◌, ◌*◌, ◌<◌}
+use lib.ListN.{get_or}
 use Rattle.bits.specs.Cells.{at}
-use Rattle.bits.proofs.Bits.{of_bits_cong}
-use Rattle.convert.proofs.Turned.{eight-room, eight_more}
+use Rattle.bits.proofs.Indexed.{get_d_tabulate}
+use Rattle.bits.proofs.Marks.{cell_bit}
+use Rattle.bits.proofs.Made.{made_by}
+use Rattle.bits.proofs.Eight.{of_bytes}
 use Rattle.convert.proofs.eight.Goals as goal
-
-pub loop-n-init : goal.loop-n-init
-unfolding of_bits
-loop-n-init c = (search rules, refl)
-
-pub overflow_mul-bits : goal.overflow_mul-bits
-overflow_mul-bits c =
-    let h = eight-room _ _ c.loop-n.n _ 0 c.loop-n-test.true c.loop-n.invariant.1 in
-    omega arith
-
-pub overflow_cast-bits : goal.overflow_cast-bits
-overflow_cast-bits c = omega (arith, c.shared_slice_known-1.given (c.args.first + 7 - c.loop-n.n))
-
-pub overflow_add-bits-in-loop-n : goal.overflow_add-bits-in-loop-n
-overflow_add-bits-in-loop-n c =
-    let h = eight-room _ _ c.loop-n.n _ 0 c.loop-n-test.true c.loop-n.invariant.1 in
-    omega (arith, c.shared_slice_known-1.given (c.args.first + 7 - c.loop-n.n))
-
-pub loop-n-preserved : goal.loop-n-preserved
-loop-n-preserved c = (
-  search rules,
-  eight_more c.args.source.now c.args.first c.loop-n.n c.loop-n.bits _ c.loop-n-test.true c.loop-n.invariant.1
-      (omega (arith, c.shared_slice_known-1.given (c.args.first + 7 - c.loop-n.n))) refl,
-)
 
 pub returns : goal.returns
 returns c =
-    let e : c.loop-n.n ≡ 8 = omega arith in
-    (rw e at c.loop-n.invariant.1) ∙ of_bits_cong 64 _ _
-    (λ i h. ap (at 8 c.args.source.now)
-    (let z : 8 * (c.args.first + 8 - 8) + i ≡ 8 * c.args.first + i = omega arith in z))
+    let s = c.args.source.now in
+    let a = c.args.first in
+    let e = made_by _ (λ (k : ℕ). get_or s (a + k) 0) _ 8 (λ k y h l q. search rules) c.from_fn.result 0 c.from_fn.ensures.items in
+    let cell : (k : ℕ) → k < 8 → get_or c.from_fn.result k 0 ≡ get_or s (a + k) 0 =
+    λ k l. ap (λ (d : List ℕ). get_or d k 0) e ∙ get_d_tabulate 8 (λ (k : ℕ). get_or s (a + k) 0) k 0 l in
+    c.from_le_bytes.ensures
+    ∙ of_bytes c.from_fn.result (λ i. at 8 s (8 * a + i)) (λ k l. rw (cell k l) (omega (arith, c.fits-source (a + k))))
+    (λ k b l h. rw (cell k l) (sym (cell_bit 8 (omega arith) s (a + k) b h (8 * a + (8 * k + b)) (omega arith))))

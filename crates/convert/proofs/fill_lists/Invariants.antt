@@ -1,8 +1,6 @@
 -- After t turns the target is the image to come without the blocks from t on (`lacking`, `ahead`), a block being eight bytes of a
 -- row. Each place is of one of 512 blocks, so at the end none is missing (`lists-end`).
 use mathlib.Core.Path.{◌≡◌}
-use Prim.Native.Nat.{◌-◌, ◌≤◌}
-use lib.ListN.{length}
 use Rattle.layouts.specs.Layouts.{lists, rows}
 use Rattle.layouts.specs.Convert.{convert}
 use Rattle.convert.specs.Blocks.{lacking, ahead}
@@ -11,7 +9,4 @@ use Rattle.convert.proofs.fill_lists.Given as goal
 
 abbrev pub invariant-loop-t : goal.invariant-loop-t
 invariant-loop-t l =
-    (l.t ≤ 512) × (length l.target ≡ 513) × (l.target ≡ lacking 64 513 (ahead eights l.t) (convert rows lists l.source))
-
-abbrev pub decreases-loop-t : goal.decreases-loop-t
-decreases-loop-t l = 512 - l.t
+    l.target ≡ lacking 64 513 (ahead eights l.t) (convert rows lists l.source)

@@ -4,7 +4,6 @@
 use mathlib.Core.Path.{◌≡◌}
 use mathlib.Core.Bool.{true}
 use Prim.Native.Nat.{ℕ, ◌*◌}
-use lib.ListN.{length}
 use Rattle.bits.specs.Bits.{bit}
 use Rattle.layouts.specs.Layouts.{lists, rows}
 use Rattle.layouts.specs.Convert.{convert}
@@ -12,10 +11,7 @@ use Rattle.convert.specs.Blocks.{lacking, full_on, stage}
 use Rattle.convert.proofs.Pending.{pending}
 use Rattle.convert.proofs.put_column.Given as goal
 
-abbrev pub invariant-loop-rest : goal.invariant-loop-rest
-invariant-loop-rest l =
-    (length l.target ≡ 4104) × (l.target ≡ lacking 8 4104 (pending (stage l.source) rows.person (9 * l.on) l.rest) (convert lists rows l.source))
-    × ((p : ℕ) → bit l.rest p ≡ true → bit (full_on l.source l.on) p ≡ true)
-
-abbrev pub decreases-loop-rest : goal.decreases-loop-rest
-decreases-loop-rest l = l.rest
+abbrev pub invariant-loop-p : goal.invariant-loop-p
+invariant-loop-p l =
+    (l.target ≡ lacking 8 4104 (pending (stage l.source) rows.person (9 * l.on) l.p-iterator.0) (convert lists rows l.source))
+    × ((p : ℕ) → bit l.p-iterator.0 p ≡ true → bit (full_on l.source l.on) p ≡ true)

@@ -1,41 +1,22 @@
--- The target lacks, of this block, the bits still in `rest` (`pending`), at first all that the eight bytes have (`lists_open`). A turn
--- puts one of them in (`lists-put`), and `rest`, each of whose bits is one of theirs, grows smaller until it is 0 (`lists_close`).
+-- At first all that the eight bytes have is still to come (`lists_open`). A turn puts one of them in (`lists-put`).
 use mathlib.Core.Path.{refl, sym, ap, ◌∙◌}
 use Prim.Native.Nat.{ℕ}
-use native.Mathlib.Omega.{arith}
-use lib.ListN.{length, length-set}
-use Rattle.bits.specs.Bits.{bit, without_bit}
-use Rattle.bits.proofs.Bits.{bit-without}
-use Rattle.bits.proofs.Sets.{fst}
-use Rattle.convert.proofs.Pending.{lacking-length}
-use Rattle.convert.proofs.Turned.{lists_open, lists-put, lists_close}
+use Rattle.bits.specs.Bits.{bit}
+use Rattle.convert.proofs.Turned.{left_bit, lists_open, lists-put, lists_close}
 use Rattle.convert.proofs.put_eight.Goals as goal
 
-pub loop-rest-init : goal.loop-rest-init
-loop-rest-init c = (
-  ap length c.requires.2 ∙ lacking-length 64 513 (omega arith) _ _,
-  c.requires.2
-      ∙ lists_open c.args.source.now c.args.t _ c.requires.1 c.eight-rest.ensures,
-  λ i h. ap (λ (x : ℕ). bit x i) (sym c.eight-rest.ensures) ∙ h,
-)
+pub loop-b-init : goal.loop-b-init
+loop-b-init c =
+    rw c.into_iter-b-iterator.ensures.into_iter_gives
+    (c.requires.1 ∙ lists_open c.args.source.now c.args.t _ c.requires.0 c.eight.ensures, λ i h. ap (λ (x : ℕ). bit x i) (sym c.eight.ensures) ∙ h)
 
-pub loop-rest-smaller : goal.loop-rest-smaller
-loop-rest-smaller c = c.without_lowest-rest.ensures.1
-
-pub loop-rest-preserved : goal.loop-rest-preserved
-loop-rest-preserved c =
-    let e = c.without_lowest-rest.ensures.0 ∙ ap (without_bit c.loop-rest.rest) (sym c.lowest.ensures.0) in (
-      simp length-set c.loop-rest.invariant.0,
-      lists-put c.args.source.now c.args.t _ _ c.loop-rest.rest _ _ c.loop-rest.target c.requires.1 c.lowest.ensures.1 refl c.loop-rest.invariant.1
-          (c.loop-rest.invariant.2 _ c.lowest.ensures.2) c.with.ensures e,
-      λ i h. c.loop-rest.invariant.2 i
-          (fst (bit c.loop-rest.rest i) _ (sym (bit-without c.loop-rest.rest _ i) ∙ ap (λ (x : ℕ). bit x i) (sym e) ∙ h)),
+pub loop-b-preserved : goal.loop-b-preserved
+loop-b-preserved c =
+    let s = c.in-Some.ensures.steps in (
+      lists-put c.args.source.now c.args.t c.in-Some.b _ c.loop-b.b-iterator.0 c.next.new.self.0 c.with.result c.loop-b.target c.requires.0 s.0 refl c.loop-b.invariant.0
+          (c.loop-b.invariant.1 c.in-Some.b s.1) c.with.ensures s.2,
+      λ i h. c.loop-b.invariant.1 i (left_bit _ _ _ i s.2 h),
     )
 
-pub shape_of-target : goal.shape_of-target
-shape_of-target c =
-    c.loop-rest.invariant.0 ∙ sym (ap length c.requires.2 ∙ lacking-length 64 513 (omega arith) _ _)
-
 pub returns : goal.returns
-returns c =
-    c.loop-rest.invariant.1 ∙ lists_close c.args.source.now c.args.t c.loop-rest.rest (omega arith)
+returns c = c.loop-b.invariant.0 ∙ lists_close c.args.source.now c.args.t c.loop-b.b-iterator.0 c.in-None.ensures.steps

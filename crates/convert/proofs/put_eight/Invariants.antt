@@ -3,7 +3,6 @@
 use mathlib.Core.Path.{◌≡◌}
 use mathlib.Core.Bool.{true}
 use Prim.Native.Nat.{ℕ, ◌+◌, ◌*◌}
-use lib.ListN.{length}
 use Rattle.bits.specs.Bits.{bit, of_bits}
 use Rattle.bits.specs.Cells.{at}
 use Rattle.layouts.specs.Layouts.{lists, rows}
@@ -13,10 +12,7 @@ use Rattle.convert.proofs.Pending.{pending}
 use Rattle.convert.proofs.Turned.{eights, eighth}
 use Rattle.convert.proofs.put_eight.Given as goal
 
-abbrev pub invariant-loop-rest : goal.invariant-loop-rest
-invariant-loop-rest l =
-    (length l.target ≡ 513) × (l.target ≡ lacking 64 513 (pending eights eighth l.t l.rest) (convert rows lists l.source))
-    × ((i : ℕ) → bit l.rest i ≡ true → bit (of_bits 64 (λ (j : ℕ). at 8 l.source (8 * (8 + 8 * l.t) + j))) i ≡ true)
-
-abbrev pub decreases-loop-rest : goal.decreases-loop-rest
-decreases-loop-rest l = l.rest
+abbrev pub invariant-loop-b : goal.invariant-loop-b
+invariant-loop-b l =
+    (l.target ≡ lacking 64 513 (pending eights eighth l.t l.b-iterator.0) (convert rows lists l.source))
+    × ((i : ℕ) → bit l.b-iterator.0 i ≡ true → bit (of_bits 64 (λ (j : ℕ). at 8 l.source (8 * (8 + 8 * l.t) + j))) i ≡ true)

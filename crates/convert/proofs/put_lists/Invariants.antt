@@ -1,8 +1,7 @@
 -- After r turns the target is the rows to come without the lists of this item from r on and the items after it. After 8 that is
 -- without the items after it.
 use mathlib.Core.Path.{◌≡◌}
-use Prim.Native.Nat.{◌+◌, ◌-◌, ◌*◌, ◌≤◌}
-use lib.ListN.{length}
+use Prim.Native.Nat.{◌+◌, ◌*◌}
 use Rattle.layouts.specs.Layouts.{lists, rows}
 use Rattle.layouts.specs.Convert.{convert}
 use Rattle.convert.specs.Blocks.{lacking, ahead, stage}
@@ -10,7 +9,4 @@ use Rattle.convert.proofs.put_lists.Given as goal
 
 abbrev pub invariant-loop-r : goal.invariant-loop-r
 invariant-loop-r l =
-    (l.r ≤ 8) × (length l.target ≡ 4104) × (l.target ≡ lacking 8 4104 (ahead (stage l.source) (9 * l.on + 1 + l.r)) (convert lists rows l.source))
-
-abbrev pub decreases-loop-r : goal.decreases-loop-r
-decreases-loop-r l = 8 - l.r
+    l.target ≡ lacking 8 4104 (ahead (stage l.source) (9 * l.on + 1 + l.r)) (convert lists rows l.source)
