@@ -20,9 +20,8 @@ use Rattle.model.proofs.Answers.{refuses, refused, refused_is, found_is, numbere
 use Rattle.model.proofs.Commands.{ranged_command, asked-ranged}
 use Rattle.layouts.specs.Machine.{Machine, guarded_by, answer_of, judged_in, Judged, Ran, RanCounting}
 use Rattle.layouts.specs.Admission.{admission, command_admission, check_admission}
-use Rattle.layouts.specs.Layouts.{Layout, is_in_order, guarded, held, Checks}
+use Rattle.layouts.specs.Layouts.{Layout, is_in_order, guarded, Checks}
 use Rattle.layouts.proofs.Guarding.{guard_off, guard_on}
-use Rattle.layouts.proofs.Ends.{readable}
 
 -- what holds past the three, and of a refusal by its number, holds of what is admitted; n: the number after 3
 pub admits : {A : Type 0} (order : Result ⊤ Refusal) (within : Bool) (ready : A) (sized ordered : Bool) (n : ℕ)
@@ -31,8 +30,8 @@ pub admits : {A : Type 0} (order : Result ⊤ Refusal) (within : Bool) (ready : 
     → ((r : Refusal) → refusal_number r ≡ guarded_by sized ordered (3 when not within else n) → P (Err r))
     → P (admission order (cond within (Some ready) None))
 admits (Ok z) within ready sized ordered n e P f g =
-    by_cases within (λ w. rw w (f (sym e) w))
-    (λ w. rw w (g is.OutOfRange (sym (guard_on sized ordered _ (sym e) ∙ rw w))))
+    by_cases within (λ w. rw w (f (sym (passed-on _ _ c.from_residual.ensures (λ y i. i))) w))
+    (λ w. rw w (g is.OutOfRange (sym (guard_on sized ordered _ (sym (passed-on _ _ c.from_residual.ensures (λ y i. i))) ∙ rw w))))
 admits (Err r) within ready sized ordered n e P f g = g r (e ∙ guard_off sized ordered _ (λ k. refuses r (e ∙ k)))
 
 -- ---- a command, in any machine

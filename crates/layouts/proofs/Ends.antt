@@ -48,25 +48,15 @@ module _ {S : Type 0} (M : Machine S) (s : S) where
     pub judged_goes : (z : ⊤) (x : S) → Ok z ≡ answer_for (table f a) → x ≡ M.after s a → Judged M s a 0 x
     judged_goes z x p u = let k = counting_goes z (M.counts s a) x p u refl in (k.0.0, k.1)
 
-  module _ (c : Command) where
-    -- a command that is offered
-    pub offers_ran : (r : Result ⊤ Refusal) (x : S) → M.has c ≡ true → Ran M s c r x → Offers M s c (Some r) x
-    offers_ran r x h k = rw h (ap Some k.0.1, k.1)
-
-    pub offers_passed : M.has c ≡ false → Offers M s c None s
-    offers_passed h = rw h (refl, refl)
-
 -- ---- any layout
 module _ (L : Layout) (s : List ℕ) where
   -- an image that may be read
   pub readable : guarded L s 0 ≡ 0 → length s ≡ L.cells
   readable e = eqb-true (length s) L.cells (guard_passed (eqb (length s) L.cells) (is_in_order L s) e).0
 
-  pub order-length : (length s ≡ L.cells → ⊥) → 1 ≡ guarded L s 0
-  order-length h = rw (ne_eqb (length s) L.cells h)
-
-  pub order_broken : length s ≡ L.cells → is_in_order L s ≡ false → 2 ≡ guarded L s 0
-  order_broken l e = rw (eq-eqb (length s) L.cells l, e)
+  -- a buffer of m cells, where the layout has n
+  pub order-length : (m n : ℕ) → length s ≡ m → L.cells ≡ n → (m ≡ n → ⊥) → 1 ≡ guarded L s 0
+  order-length m n l k h = rw (ne_eqb (length s) L.cells (λ e. h (sym l ∙ e ∙ k)))
 
   pub order_done : length s ≡ L.cells → is_in_order L s ≡ true → 0 ≡ guarded L s 0
   order_done l e = rw (eq-eqb (length s) L.cells l, e)
@@ -87,13 +77,7 @@ module _ (L : Layout) (s : List ℕ) where
   subjects_stop r e = (refused r _ _ e, refl)
 
   pub subjects_are : (p : ℕ) → 0 ≡ guarded L s 0 → p ≡ subjects_of L s → Tells L s (Ok p) s
-  subjects_are p e q = (rw q (found _ _ (sym e)), refl)
-
-  pub facts-are : (a : Arguments) (r : ℕ) (x y z m w : Bool) → r ≡ 0
-      → x ≡ live_in L s a.by → y ≡ live_in L s a.on → z ≡ live_in L s a.to
-      → m ≡ all (live_in L s) (members_of a.set) → w ≡ held L s a.by a.on r
-      → ◌≡◌ {A = Facts} (record { by = x; on = y; to = z; members = m; edits = w; back = false; past = false; full = false }) (facts_of L s a)
-  facts-are a r x y z m w er ex ey ez em ew = rw (ex, ey, ez, em, ew, er)
+  subjects_are p e q = (rw q (found _ _ (sym (passed-on _ _ c.from_residual.ensures (λ y i. i)))), refl)
 
 -- ---- every number that a unit gives is some answer's
 pub flat-known : (L : Layout) (s : List ℕ) (c : Command) → Known (answer_of (flat_unit L) s c)

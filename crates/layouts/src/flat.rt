@@ -42,6 +42,8 @@ pub trait FlatUnit<const CELLS: usize> {
     fn are_live(image: &[Self::Cell; CELLS], set: ItemSet) -> bool
         ensures { result ≡ all (live_in layout (cells image.now)) (members_of set.0) };
 
+    // What reads and writes a place stays with the unit: the proof of a writer needs that every cell is below 2 ^ 64, or 2 ^ 8, and a law
+    // cannot say that of a cell.
     fn holds(image: &[Self::Cell; CELLS], who: Item, on: Item, right: Right) -> bool
         requires { (who.0 < 64) × (on.0 < 64) × (right.0 < 8) }
         ensures { result ≡ held layout (cells image.now) who.0 on.0 right.0 };

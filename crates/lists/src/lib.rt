@@ -28,6 +28,7 @@ impl Lists {
     // The words of an image.
     pub const WORDS: usize = 513;
 
+    // As `Rows::fresh`, of other cells at another place: one function for both would need more laws than it saves lines.
     pub fn fresh() -> Lists
         ensures { (result.live ≡ get_or (fresh_image lists) 0 0) × (result.edit ≡ get_or (fresh_image lists) 1 0) }
     {

@@ -27,6 +27,7 @@ impl Rows {
     // The bytes of an image.
     pub const BYTES: usize = 4104;
 
+    // As `Lists::fresh`, of other cells at another place.
     pub fn fresh() -> Rows
         ensures { (result.live ≡ get_or (fresh_image rows) 0 0) × (result.edit ≡ get_or (fresh_image rows) 8 0) }
     {

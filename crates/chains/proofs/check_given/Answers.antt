@@ -1,7 +1,7 @@
 -- A refusal by numbers 1 to 3 has its number (`chain_check_refused`); past them the images have the shape that an answer asks for
 -- (`in_shape`), and what that finds is the check's (`chain_check_says`).
 use mathlib.Core.Path.{◌≡◌, sym, subst}
-use Rattle.std.proofs.Common.{rules}
+use Rattle.model.proofs.Answers.{passed-on}
 use Rattle.std.specs.Prelude.{Err}
 use Rattle.delegation.specs.Images.{images}
 use Rattle.delegation.specs.ChainUnit.{ChainChecks}
@@ -17,8 +17,7 @@ answer-requires c =
 pub returns-in_err-q : goal.returns-in_err-q
 returns-in_err-q c =
     let s = images c.args.grants.now c.args.loans.now in
-    let e : c.from_residual.result ≡ Err c.in_err-q.field-0.0 = search rules in
-    subst (λ a. ChainChecks s c.args.chain.now c.args.who c.args.on c.args.right a c.args.chain.now s) (sym e)
+    subst (λ a. ChainChecks s c.args.chain.now c.args.who c.args.on c.args.right a c.args.chain.now s) (sym (passed-on _ _ c.from_residual.ensures (λ y i. i)))
     (chain_check_refused s c.args.chain.now c.args.who c.args.on c.args.right c.args.order c.requires _ c.in_err-q.ensures)
 
 pub returns : goal.returns

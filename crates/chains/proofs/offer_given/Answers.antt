@@ -1,7 +1,7 @@
 -- What numbers 1 to 3 admit decides (`counting_admitted`): a refusal has its number and changes nothing; past them both images are in
 -- order, the arguments are within their limits, and what the table and the command make of it is the answer.
 use mathlib.Core.Path.{◌≡◌, sym, subst}
-use Rattle.std.proofs.Common.{rules}
+use Rattle.model.proofs.Answers.{passed-on}
 use Rattle.std.specs.Prelude.{Ok, Err}
 use Rattle.layouts.specs.Machine.{RanCounting}
 use Rattle.layouts.proofs.Admission.{counting_admitted}
@@ -17,8 +17,7 @@ settle-requires c =
 pub returns-in_err-t : goal.returns-in_err-t
 returns-in_err-t c =
     let s = images c.args.grants.now c.args.loans.now in
-    let e : c.from_residual.result ≡ Err c.in_err-t.field-0.0 = search rules in
-    subst (λ r. RanCounting chain_unit s c.args.c r s) (sym e)
+    subst (λ r. RanCounting chain_unit s c.args.c r s) (sym (passed-on _ _ c.from_residual.ensures (λ y i. i)))
     (counting_admitted chain_unit s c.args.c c.args.order c.requires (Err _) c.in_err-t.ensures)
 
 pub returns : goal.returns

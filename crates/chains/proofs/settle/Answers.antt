@@ -1,7 +1,7 @@
 -- The table is asked about the facts of the images: a refusal leaves both and counts nothing (`counting_stops`); where there is none the
 -- command is accepted (`accepted`), and it is applied and counts (`counting_goes`).
 use mathlib.Core.Path.{◌≡◌, sym, subst}
-use Rattle.std.proofs.Common.{rules}
+use Rattle.model.proofs.Answers.{passed-on}
 use Rattle.std.specs.Prelude.{Err}
 use Rattle.model.specs.Answers.{Returns}
 use Rattle.layouts.specs.Machine.{judged_in}
@@ -15,8 +15,7 @@ use Rattle.chains.proofs.settle.Goals as goal
 pub returns-in_err-answer : goal.returns-in_err-answer
 returns-in_err-answer c =
     let s = images c.args.grants.now c.args.loans.now in
-    let e : c.from_residual.result ≡ Err c.in_err-answer.field-0.0 = search rules in
-    subst (λ r. Returns (judged_in chain_unit s (raw_of c.args.t)) r s) (sym e)
+    subst (λ r. Returns (judged_in chain_unit s (raw_of c.args.t)) r s) (sym (passed-on _ _ c.from_residual.ensures (λ y i. i)))
     (counting_stops chain_unit s (raw_of c.args.t) _ c.facts.ensures _ c.in_err-answer.ensures)
 
 pub apply-requires : goal.apply-requires

@@ -21,7 +21,7 @@ unfolding rows
 returns-in_err-inspect c =
     let whole = c.in-Some-as_mut_array.ensures.cases in
     rw whole.same
-    (subst (λ r. Converts lists rows c.args.source.now c.args.target.now r c.args.source.now c.args.target.now) (sym (passed-on _ _ c.from_residual.ensures (λ y e. e)))
+    (subst (λ r. Converts lists rows c.args.source.now c.args.target.now r c.args.source.now c.args.target.now) (sym (passed-on _ _ c.from_residual.ensures (λ y i. i)))
     (convert_stops lists rows c.args.source.now c.args.target.now _ whole.long c.in_err-inspect.ensures.0.0))
 
 pub returns : goal.returns

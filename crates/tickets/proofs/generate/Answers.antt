@@ -1,7 +1,7 @@
 -- What numbers 1 to 3 admit decides (`admitted`): a refusal has its number and changes nothing (`refused_generate`); past them the
 -- table's answer is the command's (`generated`).
 use mathlib.Core.Path.{◌≡◌, refl, sym, subst}
-use Rattle.std.proofs.Common.{rules}
+use Rattle.model.proofs.Answers.{passed-on}
 use Rattle.std.specs.Prelude.{Ok, Err}
 use Rattle.ticketing.specs.declared.TicketCommand.TheVariants.{Generate}
 use Rattle.ticketing.specs.Unit.{Generates}
@@ -15,8 +15,7 @@ give-requires c =
 
 pub returns-in_err-q : goal.returns-in_err-q
 returns-in_err-q c =
-    let e : c.from_residual.result ≡ Err c.in_err-q.field-0.0 = search rules in
-    subst (λ r. Generates c.args.image.now (Generate c.args.by c.args.on c.args.right) r c.args.image.now) (sym e)
+    subst (λ r. Generates c.args.image.now (Generate c.args.by c.args.on c.args.right) r c.args.image.now) (sym (passed-on _ _ c.from_residual.ensures (λ y i. i)))
     (refused_generate c.args.image.now (Generate c.args.by c.args.on c.args.right) c.args.by c.args.on c.args.right refl c.order.result
     c.order.ensures _ c.in_err-q.ensures)
 

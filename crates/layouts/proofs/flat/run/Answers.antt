@@ -2,7 +2,7 @@
 -- its number and changes nothing; past them the arguments are within their limits, and what the table and the edit make of the image is
 -- the command's answer.
 use mathlib.Core.Path.{◌≡◌, refl, sym, ◌∙◌, subst}
-use Rattle.std.proofs.Common.{rules}
+use Rattle.model.proofs.Answers.{passed-on}
 use Rattle.std.specs.Prelude.{Ok, Err}
 use Rattle.model.specs.declared.Refusal.TheVariants as is
 use Rattle.layouts.specs.Machine.{Ran}
@@ -15,7 +15,7 @@ pub returns-in_default : goal.returns-in_default
 returns-in_default g c =
     let law = g.met.U.FlatUnit in
     command_admitted (flat_unit g.U.FlatUnit.layout) _ c.args.c (Err is.WrongLength)
-    (order-length _ _ (λ e. c.in_default.ensures.cases (sym (law.lengths _) ∙ e ∙ law.sized))) (Err _) refl
+    (order-length _ _ _ _ (law.lengths _) law.sized c.in_default.ensures.cases) (Err _) refl
 
 pub settle-requires : goal.settle-requires
 settle-requires g c = (
@@ -27,9 +27,8 @@ pub returns-in_err-t : goal.returns-in_err-t
 returns-in_err-t g c =
     let M = flat_unit g.U.FlatUnit.layout in
     let cells = g.U.FlatUnit.cells in
-    let e : c.from_residual.result ≡ Err c.in_err-t.field-0.0 = search rules in
     subst (λ s. Ran M (cells s) c.args.c c.from_residual.result (cells c.in-Some.image.now)) c.in-Some.ensures.cases.same
-    (subst (λ r. Ran M (cells c.in-Some.image.now) c.args.c r (cells c.in-Some.image.now)) (sym e)
+    (subst (λ r. Ran M (cells c.in-Some.image.now) c.args.c r (cells c.in-Some.image.now)) (sym (passed-on _ _ c.from_residual.ensures (λ y i. i)))
     (command_admitted M _ c.args.c c.order.result c.order.ensures (Err _) c.in_err-t.ensures))
 
 pub returns : goal.returns

@@ -1,7 +1,7 @@
 -- The table is asked about the facts of the image: a refusal leaves the image (`judged_stops`), and where there is none the command is
 -- applied (`judged_goes`).
 use mathlib.Core.Path.{◌≡◌, sym, subst}
-use Rattle.std.proofs.Common.{rules}
+use Rattle.model.proofs.Answers.{passed-on}
 use Rattle.std.specs.Prelude.{Err}
 use Rattle.model.specs.Answers.{number_of}
 use Rattle.model.specs.Commands.{raw_of}
@@ -14,8 +14,7 @@ pub returns-in_err-judge : goal.returns-in_err-judge
 returns-in_err-judge g c =
     let M = flat_unit g.U.FlatUnit.layout in
     let s = g.U.FlatUnit.cells c.args.image.now in
-    let e : c.from_residual.result ≡ Err c.in_err-judge.field-0.0 = search rules in
-    subst (λ r. Judged M s (raw_of c.args.t) (number_of r) s) (sym e) (judged_stops M s (raw_of c.args.t) _ c.facts.ensures _ c.in_err-judge.ensures)
+    subst (λ r. Judged M s (raw_of c.args.t) (number_of r) s) (sym (passed-on _ _ c.from_residual.ensures (λ y i. i))) (judged_stops M s (raw_of c.args.t) _ c.facts.ensures _ c.in_err-judge.ensures)
 
 pub returns : goal.returns
 returns g c =

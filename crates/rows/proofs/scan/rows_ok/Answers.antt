@@ -17,20 +17,20 @@ pub returns-else-all : goal.returns-else-all
 returns-else-all c =
     let s = c.args.image.now in
     let items : c.all.result ≡ all_below 64 (items_ok rows s 512) =
-        all_from_yields_List (λ k. all_below 8 (λ j. items_ok rows s 512 (8 * k + j))) _ _ _ c.all.ensures.ran
-        (YieldsList-from_range 0 8 8 refl refl) (λ x b q k. search rules)
-        ∙ all-range _ 8 ∙ sym (below_nested 8 8 (items_ok rows s 512)) in
+    all_from_yields_List (λ k. all_below 8 (λ j. items_ok rows s 512 (8 * k + j))) _ _ _ c.all.ensures.ran
+    (YieldsList-from_range 0 8 8 refl refl) (λ x b q k. search rules)
+    ∙ all-range _ 8 ∙ sym (below_nested 8 8 (items_ok rows s 512)) in
     c.if-all.false ∙ sym (two_parts rows s 512 64 ∙ rw (sym items ∙ c.if-all.false))
 
 pub returns-then-all : goal.returns-then-all
 returns-then-all c =
     let s = c.args.image.now in
     let items : c.all.result ≡ all_below 64 (items_ok rows s 512) =
-        all_from_yields_List (λ k. all_below 8 (λ j. items_ok rows s 512 (8 * k + j))) _ _ _ c.all.ensures.ran
-        (YieldsList-from_range 0 8 8 refl refl) (λ x b q k. search rules)
-        ∙ all-range _ 8 ∙ sym (below_nested 8 8 (items_ok rows s 512)) in
+    all_from_yields_List (λ k. all_below 8 (λ j. items_ok rows s 512 (8 * k + j))) _ _ _ c.all.ensures.ran
+    (YieldsList-from_range 0 8 8 refl refl) (λ x b q k. search rules)
+    ∙ all-range _ 8 ∙ sym (below_nested 8 8 (items_ok rows s 512)) in
     let persons : c.all-then-all.result ≡ all_below 64 (persons_ok rows s 512) =
-        all_from_yields_List (persons_ok rows s 512) _ _ _ c.all-then-all.ensures.ran (YieldsList-from_range 0 64 64 refl refl)
-        (λ x b q k. search rules)
-        ∙ all-range _ 64 in
+    all_from_yields_List (persons_ok rows s 512) _ _ _ c.all-then-all.ensures.ran (YieldsList-from_range 0 64 64 refl refl)
+    (λ x b q k. search rules)
+    ∙ all-range _ 64 in
     persons ∙ sym (two_parts rows s 512 64 ∙ rw (sym items ∙ c.if-all.true))

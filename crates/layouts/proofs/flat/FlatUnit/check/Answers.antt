@@ -1,7 +1,7 @@
 -- A refusal by numbers 1 to 3 has its number (`check_refused`); past them the image may be read at the place asked for
 -- (`check_reads`), and its bit is the answer (`check_says`).
 use mathlib.Core.Path.{◌≡◌, refl, sym, ◌∙◌, subst}
-use Rattle.std.proofs.Common.{rules}
+use Rattle.model.proofs.Answers.{passed-on}
 use Rattle.std.specs.Prelude.{Err}
 use Rattle.model.specs.declared.Refusal.TheVariants as is
 use Rattle.layouts.specs.Layouts.{Checks}
@@ -13,13 +13,12 @@ pub returns-in_default : goal.returns-in_default
 returns-in_default g c =
     let law = g.met.Self.FlatUnit in
     check_refused _ _ c.args.who c.args.on c.args.right (Err is.WrongLength)
-    (order-length _ _ (λ e. c.in_default.ensures.cases (sym (law.lengths _) ∙ e ∙ law.sized))) _ refl
+    (order-length _ _ _ _ (law.lengths _) law.sized c.in_default.ensures.cases) _ refl
 
 pub returns-in_err-q : goal.returns-in_err-q
 returns-in_err-q g c =
     let s = g.Self.FlatUnit.cells c.args.image.now in
-    let e : c.from_residual.result ≡ Err c.in_err-q.field-0.0 = search rules in
-    subst (λ r. Checks g.Self.FlatUnit.layout s c.args.who c.args.on c.args.right r s) (sym e)
+    subst (λ r. Checks g.Self.FlatUnit.layout s c.args.who c.args.on c.args.right r s) (sym (passed-on _ _ c.from_residual.ensures (λ y i. i)))
     (check_refused g.Self.FlatUnit.layout _ c.args.who c.args.on c.args.right c.order.result (rw c.in-Some.ensures.cases.same at c.order.ensures) _
     c.in_err-q.ensures)
 
