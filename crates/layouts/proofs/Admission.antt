@@ -3,7 +3,7 @@
 use mathlib.Core.Path.{◌≡◌, refl, sym, ap, ◌∙◌, subst}
 use mathlib.Core.Bool.{Bool, true, false, not, ◌&&◌, cond}
 use mathlib.Core.List.{List}
-use Prim.Native.Nat.{ℕ, ◌<◌}
+use Prim.Native.Nat.{ℕ}
 use borrow.Author.Tests.{ne_eqb}
 use lib.ListN.{length}
 use lib.Dec.{eqb}
@@ -17,10 +17,10 @@ use Rattle.model.specs.declared.Refusal.TheVariants as is
 use Rattle.model.specs.Commands.{arguments_of, typed_of, raw_of, fits, items, right_depth, asking, Ranged}
 use Rattle.model.specs.Answers.{asked, table, refusal_number, number_of, answered, Returns, ◌when◌else◌}
 use Rattle.model.proofs.Answers.{refuses, refused, refused_is, found_is, numbered, answered_number, table-known}
-use Rattle.model.proofs.Commands.{ranged_command, asked-ranged}
+use Rattle.model.proofs.Commands.{ranged_command}
 use Rattle.layouts.specs.Machine.{Machine, guarded_by, answer_of, judged_in, Judged, Ran, RanCounting}
 use Rattle.layouts.specs.Admission.{admission, command_admission, check_admission}
-use Rattle.layouts.specs.Layouts.{Layout, is_in_order, guarded, Checks}
+use Rattle.layouts.specs.Layouts.{Layout, is_in_order, guarded, held, Checks}
 use Rattle.layouts.proofs.Guarding.{guard_off, guard_on}
 
 -- what holds past the three, and of a refusal by its number, holds of what is admitted; n: the number after 3
@@ -30,8 +30,8 @@ pub admits : {A : Type 0} (order : Result ⊤ Refusal) (within : Bool) (ready : 
     → ((r : Refusal) → refusal_number r ≡ guarded_by sized ordered (3 when not within else n) → P (Err r))
     → P (admission order (cond within (Some ready) None))
 admits (Ok z) within ready sized ordered n e P f g =
-    by_cases within (λ w. rw w (f (sym (passed-on _ _ c.from_residual.ensures (λ y i. i))) w))
-    (λ w. rw w (g is.OutOfRange (sym (guard_on sized ordered _ (sym (passed-on _ _ c.from_residual.ensures (λ y i. i))) ∙ rw w))))
+    by_cases within (λ w. rw w (f (sym e) w))
+    (λ w. rw w (g is.OutOfRange (sym (guard_on sized ordered _ (sym e) ∙ rw w))))
 admits (Err r) within ready sized ordered n e P f g = g r (e ∙ guard_off sized ordered _ (λ k. refuses r (e ∙ k)))
 
 -- ---- a command, in any machine
@@ -102,9 +102,6 @@ module _ (L : Layout) (s : List ℕ) (p o r : ℕ) (order : Result ⊤ Refusal) 
   module _ (q : Question) (h : Ok q ≡ check_admission order p o r) where
     ready : Asks (eqb (length s) L.cells) (is_in_order L s) p o r (Ok q)
     ready = check_admitted (eqb (length s) L.cells) (is_in_order L s) p o r order e (Ok q) h
-
-    pub check_reads : (length s ≡ L.cells) × (q.who.0 < 64) × (q.on.0 < 64) × (q.right.0 < 8)
-    check_reads = let b = asked-ranged p o r ready.2 in (readable L s ready.0, rw ready.3 b.0, rw ready.3 b.1, rw ready.3 b.2)
 
     pub check_says : (a : Result Bool Refusal) (b : Bool) → b ≡ held L s q.who.0 q.on.0 q.right.0 → a ≡ Ok b → Checks L s p o r a s
     check_says a b k i = (i ∙ rw ready.1 (found_is 0 b refl ∙ ap (answered 0) (k ∙ rw ready.3)), refl)

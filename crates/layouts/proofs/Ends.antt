@@ -9,14 +9,13 @@ use lib.Dec.{eqb}
 use Rattle.model.specs.declared.Command.{Command}
 use Rattle.model.specs.declared.Arguments.{Arguments}
 use Rattle.model.specs.declared.Facts.{Facts}
-use Rattle.std.specs.Prelude.{Some, None, Result, Ok, Err, ⊤}
+use Rattle.std.specs.Prelude.{Result, Ok, Err, ⊤}
 use Rattle.model.specs.declared.Refusal.{Refusal}
 use Rattle.model.specs.declared.Refusal.TheVariants as is
-use Rattle.bits.specs.Sets.{all}
-use Rattle.model.specs.Commands.{arguments_of, members_of}
-use Rattle.layouts.specs.Machine.{Machine, answer_of, judged_in, Judged, Ran, Offers}
+use Rattle.model.specs.Commands.{arguments_of}
+use Rattle.layouts.specs.Machine.{Machine, answer_of, judged_in, Judged}
 use Rattle.model.specs.Answers.{table, refusal_number, number_of, answered, answer_for, Returns, checked_yes}
-use Rattle.layouts.specs.Layouts.{Layout, is_in_order, guarded, facts_of, flat_unit, live_in, held, check_number, check_yes, Checks, Inspects, Freshens, fresh_image}
+use Rattle.layouts.specs.Layouts.{Layout, is_in_order, guarded, facts_of, flat_unit, held, check_number, check_yes, Checks, Inspects, Freshens, fresh_image}
 use Rattle.layouts.specs.Subjects.{subjects_of, Tells}
 use Rattle.model.proofs.Answers.{numbered, refuses, refused, found, found_is, Known, answered_number, table-known, answer-known, checked_yes_lem}
 use Rattle.layouts.proofs.Guarding.{guard_passed, guard_known, check_guard_known}
@@ -77,7 +76,7 @@ module _ (L : Layout) (s : List ℕ) where
   subjects_stop r e = (refused r _ _ e, refl)
 
   pub subjects_are : (p : ℕ) → 0 ≡ guarded L s 0 → p ≡ subjects_of L s → Tells L s (Ok p) s
-  subjects_are p e q = (rw q (found _ _ (sym (passed-on _ _ c.from_residual.ensures (λ y i. i)))), refl)
+  subjects_are p e q = (rw q (found _ _ (sym e)), refl)
 
 -- ---- every number that a unit gives is some answer's
 pub flat-known : (L : Layout) (s : List ℕ) (c : Command) → Known (answer_of (flat_unit L) s c)

@@ -1,7 +1,7 @@
 -- A buffer of a wrong length is refused by number 1. In any other, what numbers 1 to 3 admit decides (`command_admitted`): a refusal has
 -- its number and changes nothing; past them the arguments are within their limits, and what the table and the edit make of the image is
 -- the command's answer.
-use mathlib.Core.Path.{◌≡◌, refl, sym, ◌∙◌, subst}
+use mathlib.Core.Path.{refl, sym, subst}
 use Rattle.model.proofs.Answers.{passed-on}
 use Rattle.std.specs.Prelude.{Ok, Err}
 use Rattle.model.specs.declared.Refusal.TheVariants as is

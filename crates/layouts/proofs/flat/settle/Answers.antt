@@ -1,8 +1,7 @@
 -- The table is asked about the facts of the image: a refusal leaves the image (`judged_stops`), and where there is none the command is
 -- applied (`judged_goes`).
-use mathlib.Core.Path.{◌≡◌, sym, subst}
+use mathlib.Core.Path.{sym, subst}
 use Rattle.model.proofs.Answers.{passed-on}
-use Rattle.std.specs.Prelude.{Err}
 use Rattle.model.specs.Answers.{number_of}
 use Rattle.model.specs.Commands.{raw_of}
 use Rattle.layouts.specs.Machine.{Judged}

@@ -1,8 +1,7 @@
 -- An image of a wrong length or not in order is refused (`subjects_stop`); in any other the unit says who the subjects are
 -- (`subjects_are`).
-use mathlib.Core.Path.{◌≡◌, sym, ◌∙◌, subst}
+use mathlib.Core.Path.{sym, subst}
 use Rattle.model.proofs.Answers.{passed-on}
-use Rattle.std.specs.Prelude.{Err}
 use Rattle.model.specs.declared.Refusal.TheVariants as is
 use Rattle.layouts.specs.Subjects.{Tells}
 use Rattle.layouts.proofs.Ends.{order-length, subjects_stop, subjects_are}
