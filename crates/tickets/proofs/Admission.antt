@@ -25,7 +25,7 @@ use Rattle.ticketing.specs.declared.TicketCommand.TheVariants.{Generate}
 use Rattle.ticketing.specs.Machine.{fits, table, apply, holds}
 use Rattle.ticketing.specs.Order.{is_in_order}
 use Rattle.ticketing.specs.Image.{ticket_words, machine_of, image_of}
-use Rattle.ticketing.specs.Unit.{guarded, answer_of, Judged, Ran, Generates, Checks}
+use Rattle.ticketing.specs.Unit.{guarded, answer_of, step_of, Judged, Ran, Generates, Checks}
 use Rattle.tickets.specs.Places.{Ready, JudgedGenerate}
 
 -- the answers of settled commands: another number than 0 leaves the image, and 0 applies the command

@@ -1,8 +1,7 @@
 -- A refusal by numbers 1 to 3 has its number (`check_refused`); past them the image may be read (`check_reads`), and whether a ticket is
 -- held is the answer (`check_says`).
-use mathlib.Core.Path.{◌≡◌, sym, subst}
+use mathlib.Core.Path.{sym, subst}
 use Rattle.model.proofs.Answers.{passed-on}
-use Rattle.std.specs.Prelude.{Err}
 use Rattle.ticketing.specs.Unit.{Checks}
 use Rattle.tickets.proofs.Admission.{check_refused, check_reads, check_says}
 use Rattle.tickets.proofs.check.Goals as goal

@@ -1,8 +1,8 @@
 -- What numbers 1 to 3 admit decides (`admitted`): a refusal has its number and changes nothing (`refused_ran`); past them the table's
 -- answer is the command's (`ran`).
-use mathlib.Core.Path.{◌≡◌, refl, sym, subst}
+use mathlib.Core.Path.{refl, sym, subst}
 use Rattle.model.proofs.Answers.{passed-on}
-use Rattle.std.specs.Prelude.{Ok, Err}
+use Rattle.std.specs.Prelude.{Ok}
 use Rattle.ticketing.specs.declared.TicketCommand.TheVariants.{Pass}
 use Rattle.ticketing.specs.Unit.{Ran}
 use Rattle.tickets.proofs.Admission.{admitted, refused_ran, ran}
