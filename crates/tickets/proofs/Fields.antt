@@ -1,12 +1,12 @@
 -- The fields of a record, as code tests them: each test of a word is that of the ticket it tells, for a field is the word divided and cut
 -- to its width; no holder lies outside the live set where the holders' word has no bit that the live set lacks.
 use mathlib.Core.Path.{◌≡◌, refl, sym, ap, ap₂, ◌∙◌}
-use mathlib.Core.Bool.{Bool, true, false, ◌&&◌, ◌||◌}
+use mathlib.Core.Bool.{Bool, true, false, not, ◌&&◌, ◌||◌, false≢true}
 use mathlib.Core.List.{List, [], ◌∷◌}
 use Prim.Native.Nat.{ℕ, ◌+◌, ◌-◌, ◌*◌, ◌/◌, ◌%◌, ◌^◌, ◌<◌}
 use native.Mathlib.Omega.{arith}
 use native.Mathlib.Nat.{mod-eq_of_lt}
-use borrow.Author.Tests.{eqb-true, eq-eqb, ne_eqb, leb-true, leb-false}
+use borrow.Author.Tests.{eqb-true, eqb-false, eq-eqb, ne_eqb, leb-true, leb-false}
 use lib.Bits.{bit_and, bit_or}
 use lib.Dec.{eqb, leb, ltb}
 use Rattle.bits.specs.Sets.{any}
@@ -91,6 +91,16 @@ held_code w h l n z = let e = ne_eqb h 0 z in rw e (go (eqb (w % 4294967296) 0 &
     go true true = refl
     go true false = refl
     go false b = refl
+
+-- words that are not both 0 are in order where there is a holder and the ticket is sound
+pub live_code : (w h l n : ℕ) {s : Bool} → (bit_or w h ≡ 0 → ⊥) → s ≡ sound l n (ticket_of w h)
+    → (not (eqb h 0) && s ≡ record_ok l n (ticket_of w h)) × (not (eqb h 0) && s ≡ true → h ≡ 0 → ⊥)
+live_code w h l n {s} z e =
+    by_cases (eqb h 0)
+    (λ q.
+    let f = ap (λ (x : Bool). not x && s) q in
+    (f ∙ sym (bad_zero w h l n z (eqb-true h 0 q)), λ t k. false≢true (sym f ∙ t)))
+    (λ q. (ap (λ (x : Bool). not x && s) q ∙ e ∙ held_code w h l n (eqb-false h 0 q), λ t k. eqb-false h 0 q k))
 
 -- ---- an item and a right as one number
 key_code : (w : ℕ) → w / 4294967296 % 65536 ≡ key_of (w / 4294967296 % 256) (w / 1099511627776 % 256)

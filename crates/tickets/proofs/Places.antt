@@ -1,7 +1,7 @@
 -- The places of an image. A scan goes place after place: what holds of the tickets from place k on holds of place k and of those after
 -- it, so a loop carries what the rest still has to say. A write at a place is a write into the list of tickets, for two words make one.
 use mathlib.Core.Path.{◌≡◌, refl, sym, ap, ap₂, ◌∙◌}
-use mathlib.Core.Bool.{Bool, true, false, not, ◌&&◌, ◌||◌, cond, or-false}
+use mathlib.Core.Bool.{Bool, true, false, not, ◌&&◌, ◌||◌, cond, or-false, and-true}
 use mathlib.Core.List.{List, [], ◌∷◌, ◌++◌, map, append-nil, map-append}
 use Prim.Native.Nat.{ℕ, zero, suc, ◌+◌, ◌*◌, ◌/◌, ◌%◌, ◌≤◌, ◌<◌}
 use native.Mathlib.Nat.{zero-add}
@@ -13,7 +13,8 @@ use lib.Seq.{drop-set-lt, set-get_or, set_at, take-suc-set, append_snoc}
 use lib.Dec.{eqb}
 use Rattle.bits.specs.Sets.{any, all, keep}
 use Rattle.bits.specs.Bits.{without_bit}
-use Rattle.bits.proofs.Sets.{iff, or_right}
+use Rattle.bits.proofs.Sets.{iff, or_right, fst, snd, by_cases}
+use Rattle.std.specs.Bool.{then_some}
 use Rattle.bits.proofs.Bits.{without_le}
 use Rattle.ticketing.specs.declared.Ticket.{Ticket}
 use Rattle.ticketing.specs.Machine.{Tickets, ticket, tickets, vacant, vacancies, only, fresh_tickets, is_live, put, issue, without}
@@ -30,14 +31,15 @@ module _ (s : List ℕ) (k : ℕ) (size : length s ≡ ticket_words) (less : k <
   pub next_place : from s k ≡ ticket_at s k ∷ from s (k + 1)
   next_place = from_step s k (omega arith)
 
-  -- every ticket passes where it does, and those after it; not where it doesn't
-  all-next : (q : Ticket → Bool) (whole : Bool) → whole ≡ all q (from s k) → q (ticket_at s k) ≡ true → whole ≡ all q (from s (k + 1))
+  -- every ticket passes: `so` says it of those before place k, `here` of the one there
+  pub all-next : (q : Ticket → Bool) (whole so here : Bool) → whole ≡ so && all q (from s k) → here ≡ q (ticket_at s k)
+      → whole ≡ (so && here) && all q (from s (k + 1))
   unfolding all
-  all-next q whole e h = e ∙ ap (all q) next_place ∙ rw h
-
-  all-stop : (q : Ticket → Bool) (whole : Bool) → whole ≡ all q (from s k) → q (ticket_at s k) ≡ false → whole ≡ false
-  unfolding all
-  all-stop q whole e h = e ∙ ap (all q) next_place ∙ rw h
+  all-next q whole so here e h = e ∙ ap (λ ts. so && all q ts) next_place ∙ rw (← h) (go so here)
+    where
+      go : (a b : Bool) → a && (b && all q (from s (k + 1))) ≡ (a && b) && all q (from s (k + 1))
+      go true b = refl
+      go false b = refl
 
   -- some ticket passes
   pub any_next : (q : Ticket → Bool) (whole so here : Bool) → whole ≡ so || any q (from s k) → here ≡ q (ticket_at s k)
@@ -73,14 +75,15 @@ module _ (s : List ℕ) (k : ℕ) (size : length s ≡ ticket_words) (less : k <
       go true = refl
       go false = refl
 
--- after k places of a scan, each in order: the numbers of their live tickets are the first in the buffer
-pub record Scanned (s d : List ℕ) (count k : ℕ) : Type 0 where
+-- after k places of a scan: whether each was in order, and if so the numbers of their live tickets are the first in the buffer
+pub record Scanned (s d : List ℕ) (ok : Bool) (count k : ℕ) : Type 0 where
   pub few : count ≤ k
-  pub right : all (record_ok (get_or s 0 0) (get_or s 1 0)) (machine_of s).records ≡ all (record_ok (get_or s 0 0) (get_or s 1 0)) (from s k)
-  pub numbers : live_numbers (machine_of s).records ≡ take count d ++ live_numbers (from s k)
+  pub right : all (record_ok (get_or s 0 0) (get_or s 1 0)) (machine_of s).records
+      ≡ ok && all (record_ok (get_or s 0 0) (get_or s 1 0)) (from s k)
+  pub numbers : ok ≡ true → live_numbers (machine_of s).records ≡ take count d ++ live_numbers (from s k)
 
-pub scanned-start : (s d : List ℕ) → Scanned s d 0 0
-scanned-start s d = record { few = omega arith; right = ap (all _) (from_zero s); numbers = ap live_numbers (from_zero s) }
+pub scanned-start : (s d : List ℕ) → Scanned s d true 0 0
+scanned-start s d = record { few = omega arith; right = ap (all _) (from_zero s); numbers = λ e. ap live_numbers (from_zero s) }
 
 -- past the last place nothing is left to say
 module _ (s : List ℕ) (size : length s ≡ ticket_words) where
@@ -92,47 +95,55 @@ module _ (s : List ℕ) (size : length s ≡ ticket_words) where
   unfolding place_of
   place_end q p e = let a : place_of q (from s 1024) ≡ 0 = ap (place_of q) (from_end s size) in omega arith
 
-  module _ {d : List ℕ} {count k : ℕ} (v : Scanned s d count k) where
+  pub all_end : (q : Ticket → Bool) (whole so : Bool) → whole ≡ so && all q (from s 1024) → so ≡ whole
+  unfolding all
+  all_end q whole so e = sym (e ∙ ap (λ ts. so && all q ts) (from_end s size) ∙ and-true so)
+
+  module _ {d : List ℕ} {ok : Bool} {count k : ℕ} (v : Scanned s d ok count k) where
     module _ (less : k < 1024) where
       -- a place without a live ticket
-      pub scanned-none : record_ok (get_or s 0 0) (get_or s 1 0) (ticket_at s k) ≡ true → (ticket_at s k).holders ≡ 0 → Scanned s d count (k + 1)
+      pub scanned-none : record_ok (get_or s 0 0) (get_or s 1 0) (ticket_at s k) ≡ true → (ticket_at s k).holders ≡ 0
+          → Scanned s d ok count (k + 1)
       scanned-none h z =
           let e : is_live (ticket_at s k) ≡ false = rw z in
+          let r = all-next s k size less _ _ ok true v.right (sym h) in
           record {
             few = omega (arith, v.few);
-            right = all-next s k size less _ _ v.right h;
-            numbers = v.numbers ∙ ap (λ ns. take count d ++ ns) (live-next s k size less ∙ rw e);
+            right = rw (and-true ok) at r;
+            numbers = λ o. v.numbers o ∙ ap (λ ns. take count d ++ ns) (live-next s k size less ∙ rw e);
           }
 
-      -- and one with a live ticket
-      pub scanned-live : (n : ℕ) → record_ok (get_or s 0 0) (get_or s 1 0) (ticket_at s k) ≡ true → ((ticket_at s k).holders ≡ 0 → ⊥)
-          → n ≡ (ticket_at s k).number → length d ≡ 1024 → Scanned s (set d count n) (count + 1) (k + 1)
-      scanned-live n h z e m =
-          let l : is_live (ticket_at s k) ≡ true = rw (ne_eqb (ticket_at s k).holders 0 z) in
+      -- and another: it is in order where it has a holder and is sound
+      pub scanned-live : (n : ℕ) (here : Bool) → here ≡ record_ok (get_or s 0 0) (get_or s 1 0) (ticket_at s k)
+          → (here ≡ true → (ticket_at s k).holders ≡ 0 → ⊥) → n ≡ (ticket_at s k).number → length d ≡ 1024
+          → Scanned s (set d count n) (ok && here) (count + 1) (k + 1)
+      scanned-live n here h z e m =
           let room : count < length d = omega (arith, v.few) in
           record {
             few = omega (arith, v.few);
-            right = all-next s k size less _ _ v.right h;
-            numbers = v.numbers ∙ ap (λ ns. take count d ++ ns) (live-next s k size less ∙ rw (l, ← e))
+            right = all-next s k size less _ _ ok here v.right h;
+            numbers = λ o.
+                let l : is_live (ticket_at s k) ≡ true = rw (ne_eqb (ticket_at s k).holders 0 (z (snd ok here o))) in
+                v.numbers (fst ok here o) ∙ ap (λ ns. take count d ++ ns) (live-next s k size less ∙ rw (l, ← e))
                 ∙ sym (append_snoc (take count d) n (live_numbers (from s (k + 1))))
                 ∙ ap (λ ns. ns ++ live_numbers (from s (k + 1)))
                 (sym (take-suc-set d count n room) ∙ ap (λ (i : ℕ). take i (set d count n)) (sym (add-one count)));
           }
 
-      pub scanned-bad : record_ok (get_or s 0 0) (get_or s 1 0) (ticket_at s k) ≡ false
-          → all (record_ok (get_or s 0 0) (get_or s 1 0)) (machine_of s).records ≡ false
-      scanned-bad h = all-stop s k size less _ _ v.right h
-
-    pub scanned-end : 1024 ≤ k → k ≤ 1024 → Gathered s d (Some count)
-    unfolding all keep
+    pub scanned-end : 1024 ≤ k → k ≤ 1024 → Gathered s d (then_some ok count)
+    unfolding keep
     scanned-end a b =
-        let e : k ≡ 1024 = omega arith in (
-          v.right ∙ ap (λ i. all (record_ok (get_or s 0 0) (get_or s 1 0)) (from s i)) e
-              ∙ ap (all (record_ok (get_or s 0 0) (get_or s 1 0))) (from_end s size),
+        let e : k ≡ 1024 = omega arith in
+        let r = all_end (record_ok (get_or s 0 0) (get_or s 1 0)) _ ok
+        (v.right ∙ ap (λ i. ok && all (record_ok (get_or s 0 0) (get_or s 1 0)) (from s i)) e) in
+        by_cases ok
+        (λ q. rw q (
+          sym r ∙ q,
           omega (arith, v.few),
-          sym (v.numbers ∙ ap (λ i. take count d ++ live_numbers (from s i)) e
+          sym (v.numbers q ∙ ap (λ i. take count d ++ live_numbers (from s i)) e
               ∙ ap (λ ts. take count d ++ live_numbers ts) (from_end s size) ∙ append-nil (take count d)),
-        )
+        ))
+        (λ q. rw q (sym r ∙ q))
 
 -- ---- the first place that passes
 module _ (s : List ℕ) (size : length s ≡ ticket_words) (q : Ticket → Bool) where
@@ -148,27 +159,27 @@ module _ (s : List ℕ) (size : length s ≡ ticket_words) (q : Ticket → Bool)
       )
 
   -- what is found by a test that is the ticket's
-  module _ {P : ℕ → ℕ → Bool → Type 0} {r : Option ℕ} (f : FirstPlace P s r) (same : (w h : ℕ) (b : Bool) → P w h b → b ≡ q (ticket_of w h)) where
+  module _ {P : ℕ → Bool → Type 0} {r : Option ℕ} (f : FirstPlace P r) (same : (k : ℕ) (b : Bool) → P k b → b ≡ q (ticket_at s k)) where
     pub place_found : IsPlace q s r
     place_found = go r f.first
       where
-        go : (r : Option ℕ) → FirstOf P s r → IsPlace q s r
-        go None v = sym (place_end s size q _ (none_below 1024 (omega arith) (λ j l. sym (same _ _ false (v j l)))).0)
+        go : (r : Option ℕ) → FirstOf P r → IsPlace q s r
+        go None v = sym (place_end s size q _ (none_below 1024 (omega arith) (λ j l. sym (same j false (v j l)))).0)
         go (Some n) v = (
           v.0,
-          place_here s n size v.0 q _ (none_below n (omega (arith, v.0)) (λ j l. sym (same _ _ false (v.1 j l)))).0 (sym (same _ _ true v.2)),
+          place_here s n size v.0 q _ (none_below n (omega (arith, v.0)) (λ j l. sym (same j false (v.1 j l)))).0 (sym (same n true v.2)),
         )
 
     pub any_found : is_some r ≡ any q (machine_of s).records
     any_found = go r f.first
       where
-        go : (r : Option ℕ) → FirstOf P s r → is_some r ≡ any q (machine_of s).records
-        go None v = any-end s size q _ false (none_below 1024 (omega arith) (λ j l. sym (same _ _ false (v j l)))).1
+        go : (r : Option ℕ) → FirstOf P r → is_some r ≡ any q (machine_of s).records
+        go None v = any-end s size q _ false (none_below 1024 (omega arith) (λ j l. sym (same j false (v j l)))).1
         go (Some n) v =
-            sym (any_next s n size v.0 q _ false true (none_below n (omega (arith, v.0)) (λ j l. sym (same _ _ false (v.1 j l)))).1 (same _ _ true v.2))
+            sym (any_next s n size v.0 q _ false true (none_below n (omega (arith, v.0)) (λ j l. sym (same j false (v.1 j l)))).1 (same n true v.2))
 
-pub free_code : (w h : ℕ) {b : Bool} → b ≡ eqb h 0 → b ≡ is_free (ticket_of w h)
-free_code w h e = e ∙ twice (eqb h 0)
+pub free_code : (s : List ℕ) (k : ℕ) {b : Bool} → b ≡ eqb (get_or s (3 + 2 * k) 0) 0 → b ≡ is_free (ticket_at s k)
+free_code s k e = e ∙ twice (eqb (get_or s (3 + 2 * k) 0) 0)
   where
     twice : (a : Bool) → a ≡ not (not a)
     twice true = refl

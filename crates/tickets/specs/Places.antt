@@ -65,15 +65,13 @@ placed s k w h = set (set s (2 + 2 * k) w) (3 + 2 * k) h
 abbrev pub placed_ticket : List ℕ → ℕ → Ticket → List ℕ
 placed_ticket s k t = placed s k (word_of t) t.holders
 
--- the first place whose words P says true of, and false of those before it; or none, and false of every place
-abbrev pub FirstOf : (ℕ → ℕ → Bool → Type 0) → List ℕ → Option ℕ → Type 0
-FirstOf P s None = (k : ℕ) → k < most_tickets → P (get_or s (2 + 2 * k) 0) (get_or s (3 + 2 * k) 0) false
-FirstOf P s (Some n) =
-    (n < most_tickets) × ((k : ℕ) → k < n → P (get_or s (2 + 2 * k) 0) (get_or s (3 + 2 * k) 0) false)
-    × P (get_or s (2 + 2 * n) 0) (get_or s (3 + 2 * n) 0) true
+-- the first place that P says true of, and false of those before it; or none, and false of every place
+abbrev pub FirstOf : (ℕ → Bool → Type 0) → Option ℕ → Type 0
+FirstOf P None = (k : ℕ) → k < most_tickets → P k false
+FirstOf P (Some n) = (n < most_tickets) × ((k : ℕ) → k < n → P k false) × P n true
 
-pub record FirstPlace (P : ℕ → ℕ → Bool → Type 0) (s : List ℕ) (r : Option ℕ) : Type 0 where
-  pub first : FirstOf P s r
+pub record FirstPlace (P : ℕ → Bool → Type 0) (r : Option ℕ) : Type 0 where
+  pub first : FirstOf P r
 
 -- the first place whose ticket passes, or none
 abbrev pub IsPlace : (Ticket → Bool) → List ℕ → Option ℕ → Type 0

@@ -4,7 +4,7 @@
 
 #![tactic(auto)]
 
-ghost use Rattle.std.specs.Prelude.{◌≡◌, ◌&&◌, map, ◌+◌, ◌*◌, ◌<◌, ◌≤◌, eqb, length, get_or, take};
+ghost use Rattle.std.specs.Prelude.{◌≡◌, ℕ, ◌&&◌, map, ◌+◌, ◌*◌, ◌<◌, ◌≤◌, eqb, length, get_or, take};
 ghost use Rattle.bits.specs.Sets.{any, all};
 ghost use Rattle.model.specs.Answers.{number_of, ◌when◌else◌};
 ghost use Rattle.ticketing.specs.declared.TicketCommand.TheVariants.{Create, Generate, Pass, Remove, Delete};
@@ -101,26 +101,26 @@ fn is_sound(w: u64, h: u64, live: u64, next: u64) -> bool
 }
 
 // The numbers of the live tickets, in the order of their places, into the buffer, and how many there are; none where a place is not in
-// order. A place is all zero, which most are; or it has a holder, and its ticket may stand.
+// order. A place is all zero, which most are; or it has a holder, and its ticket may stand. All places are looked at: most images are in
+// order, and a way out of the loop makes it slower.
 fn gather(image: &[u64], buffer: &mut [u32; 1024]) -> Option<usize>
     requires { length image.now ≡ ticket_words }
     ensures { Gathered image.now buffer.new result }
 {
     let live = image[0];
     let next = image[1];
+    let mut sound = true;
     let mut count = 0;
     for k in 0..Tickets::PLACES {
         let w = record_at(image, k);
         let h = holders_at(image, k);
         if (w | h) != 0 {
-            if h == 0 || !is_sound(w, h, live, next) {
-                return None;
-            }
+            sound &= (h != 0) & is_sound(w, h, live, next);
             buffer[count] = (w % 4294967296) as u32;
             count += 1;
         }
     }
-    Some(count)
+    sound.then_some(count)
 }
 
 // Whether every place is as it may be, and live numbers differ.
@@ -171,26 +171,25 @@ fn is_live(image: &[u64], i: Item) -> bool
     image[0].has(i.number())
 }
 
-// The first place whose record and holders pass.
-fn place_where<F: Fn(u64, u64) -> bool>(image: &[u64], passes: F) -> Option<usize>
-    requires size { length image.now ≡ ticket_words }
-    requires callable { F.IsAlwaysCallable passes }
-    ensures { FirstPlace (λ w h b. F.post passes w h b) image.now result }
+// The first place that passes.
+fn place_where<F: Fn(usize) -> bool>(passes: F) -> Option<usize>
+    requires { (k : ℕ) → k < most_tickets → F.pre passes k }
+    ensures { FirstPlace (λ k b. F.post passes k b) result }
 {
     for k in 0..Tickets::PLACES {
-        if passes(record_at(image, k), holders_at(image, k)) {
+        if passes(k) {
             return Some(k);
         }
     }
     None
 }
 
-// Whether a ticket of these words is for the item and right of the key, and the person holds it.
-fn is_held(w: u64, h: u64, who: Item, key: u64) -> bool
-    requires { who.0 < 64 }
-    ensures { result ≡ held_for who.0 key (ticket_of w h) }
+// Whether the ticket at that place is for the item and right of the key, and the person holds it.
+fn is_held(image: &[u64], k: usize, who: Item, key: u64) -> bool
+    requires { (length image.now ≡ ticket_words) × (k < most_tickets) × (who.0 < 64) }
+    ensures { result ≡ held_for who.0 key (ticket_at image.now k) }
 {
-    (w >> 32) % 65536 == key && h.has(who.number())
+    (record_at(image, k) >> 32) % 65536 == key && holders_at(image, k).has(who.number())
 }
 
 // Whether the person holds a ticket for the item and right of the key.
@@ -198,7 +197,7 @@ fn holds_key(image: &[u64], who: Item, key: u64) -> bool
     requires { (length image.now ≡ ticket_words) × (who.0 < 64) }
     ensures { result ≡ any (held_for who.0 key) (machine_of image.now).records }
 {
-    place_where(image, |w, h| is_held(w, h, who, key)).is_some()
+    place_where(|k| is_held(image, k, who, key)).is_some()
 }
 
 // The item and the right as one number.
@@ -222,7 +221,7 @@ fn first_free(image: &[u64]) -> Option<usize>
     requires { length image.now ≡ ticket_words }
     ensures { IsPlace is_free image.now result }
 {
-    place_where(image, |_, h| h == 0)
+    place_where(|k| holders_at(image, k) == 0)
 }
 
 // Whether the place has the live ticket of that number.
@@ -237,7 +236,7 @@ fn find(image: &[u64], number: u32) -> Option<usize>
     requires { length image.now ≡ ticket_words }
     ensures { IsPlace (is_number number) image.now result }
 {
-    place_where(image, |w, h| is_number(w, h, number))
+    place_where(|k| is_number(record_at(image, k), holders_at(image, k), number))
 }
 
 // The place for a new ticket. Numbers 15 and 16: no place is free, no number is left.
