@@ -22,16 +22,16 @@ loop-i-init c = (
 pub loop-i-preserved : goal.loop-i-preserved
 loop-i-preserved c =
     let o = others_in c.args.ls.now c.args.q.0 (c.loop-i.i - 1) c.last_to-i-in-loop-i.result (omega arith) c.last_to-i-in-loop-i.ensures.0 c.last_to-i-in-loop-i.ensures.1 in (
-  search rules,
-  ap length c.lend.ensures ∙ simp length-set c.loop-i.invariant.1,
-  λ p h. omega (
-    arith,
-    ap (λ (x : List ℕ). get_or x p 0) c.lend.ensures,
-    c.loop-i.invariant.2 p h,
-    lent-step c.args.ls.now c.args.q.0 p c.loop-i.row c.loop-i.i (omega arith) c.loop-i.invariant.1 h,
-    lent_skip c.args.ls.now c.args.q.0 p c.last_to-i-in-loop-i.result (c.loop-i.i - 1) o.0 o.1,
-  ),
-)
+      search rules,
+      ap length c.lend.ensures ∙ simp length-set c.loop-i.invariant.1,
+      λ p h. omega (
+        arith,
+        ap (λ (x : List ℕ). get_or x p 0) c.lend.ensures,
+        c.loop-i.invariant.2 p h,
+        lent-step c.args.ls.now c.args.q.0 p c.loop-i.row c.loop-i.i (omega arith) c.loop-i.invariant.1 h,
+        lent_skip c.args.ls.now c.args.q.0 p c.last_to-i-in-loop-i.result (c.loop-i.i - 1) o.0 o.1,
+      ),
+    )
 
 pub returns : goal.returns
 unfolding lent_to most
