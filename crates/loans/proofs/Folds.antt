@@ -1,9 +1,8 @@
 -- Chains over words: what the tests of `Rattle.delegation.proofs.Folds` come to at windows of two, at chunks, and as `any`.
-use mathlib.Core.Path.{◌≡◌, refl, sym, ap, ap₂, ◌∙◌, subst}
-use mathlib.Core.Bool.{Bool, true, false, not, ◌&&◌, ◌||◌, and_assoc, and-true, not-not}
+use mathlib.Core.Path.{◌≡◌, refl, sym, ap, ap₂, ◌∙◌}
+use mathlib.Core.Bool.{Bool, true, false, not, ◌&&◌, ◌||◌, and_assoc}
 use mathlib.Core.List.{List, [], ◌∷◌, ◌++◌}
-use mathlib.Core.Bool.{cond}
-use Prim.Native.Nat.{ℕ, zero, suc, ◌+◌, ◌*◌, ◌≤◌, ◌<◌}
+use Prim.Native.Nat.{ℕ, zero, suc, ◌*◌}
 use native.Mathlib.Omega.{arith}
 use native.Mathlib.Nat.{zero-mul}
 use Rattle.delegation.proofs.Chunks.{drop_chunk}
@@ -12,15 +11,11 @@ use lib.ListN.{length, get_or, take, drop, take-append-drop}
 use lib.Dec.{eqb, ltb}
 use denote.Param.Members.{Mut}
 use denote.Ref.{Bor}
-use Rattle.std.specs.Prelude.{Option, Some, None}
-use Rattle.std.specs.Fn.{Called}
-use Rattle.std.specs.Iterator.{Drains, FoldTurn, AlwaysYields}
-use Rattle.std.specs.List.{FoldsTo, list_any}
+use Rattle.std.specs.Iterator.{AlwaysYields}
+use Rattle.std.specs.List.{list_any}
 use Rattle.std.specs.Simd.{first_chunks}
-use Rattle.std.specs.Slice.Iter.{iter_rest, windows_rest, windows_size, windows_steps}
-use Rattle.std.specs.declared.slice.Iter.{Iter}
+use Rattle.std.specs.Slice.Iter.{windows_rest, windows_size, windows_steps}
 use Rattle.std.specs.declared.slice.Windows.{Windows}
-use Rattle.std.proofs.lemmas.Fn.{fold_over, slice_gives, fronts}
 use Rattle.bits.specs.Sets.{any, all}
 use Rattle.delegation.specs.Loans.{rising}
 use Rattle.model.proofs.Invariant.{eqb_sym}

@@ -1,6 +1,6 @@
 -- Laws of the loops over a part of the loans image.
 use mathlib.Core.Path.{◌≡◌, refl, sym, ap, ap₂, ◌∙◌}
-use mathlib.Core.Bool.{Bool, true, false, ◌&&◌, cond, and_assoc}
+use mathlib.Core.Bool.{Bool, true, false, ◌&&◌, cond}
 use mathlib.Core.List.{List, [], ◌∷◌, ◌++◌, append-nil}
 use Prim.Native.Nat.{ℕ, suc, ◌+◌, ◌≤◌, ◌<◌}
 use native.Mathlib.Omega.{arith}
@@ -10,10 +10,10 @@ use lib.ListN.{length, get_or, take, drop, set, length-set, drop_of_length-le}
 use lib.Seq.{drop-cons, take-suc, take-suc-set, take-set-le, drop-set-lt, get_or-set_same, append_snoc, take_all, take-length, drop-length}
 use lib.Dec.{eqb}
 use lib.Bits.{bit_or}
-use Rattle.bits.specs.Sets.{all, keep}
+use Rattle.bits.specs.Sets.{keep}
 use Rattle.bits.proofs.Sets.{and_swap}
 use Rattle.bits.proofs.Scan.{or-zero}
-use Rattle.bits.proofs.Indexed.{all-next, keep-next}
+use Rattle.bits.proofs.Indexed.{keep-next}
 use Rattle.loans.specs.Words.{unmasked}
 
 -- ---- the sums of the masks

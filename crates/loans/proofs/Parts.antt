@@ -15,7 +15,6 @@ use Rattle.model.specs.Commands.{shifts, most_loans}
 use Rattle.delegation.specs.Loans.{lender, loan_item, borrower, rising, insert, loan_words, header_word, recounted, moved_to, header_in, count_of, shift_in, used, loans_image, loans_with, loans_kept, loans_at, word_good, loans_in_order}
 use Rattle.delegation.specs.declared.loan.Header.{Header}
 use Rattle.bits.proofs.Sets.{by_cases, snd, all-and}
-use Rattle.bits.proofs.Indexed.{find_at}
 use Rattle.delegation.proofs.Rising.{insert-present}
 use Rattle.delegation.specs.Below.{Below}
 use Rattle.std.specs.Prelude.{Result, MatchResult}

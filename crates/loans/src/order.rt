@@ -1,5 +1,5 @@
 // Whether a loans image is in order. Each chain tests every word, whatever the others say: a loop with no exit is one of vectors.
-ghost use Rattle.std.specs.Prelude.{◌≡◌, ◌&&◌, ◌+◌, ◌*◌, ◌/◌, ◌<◌, length, drop, eqb, leb, ltb};
+ghost use Rattle.std.specs.Prelude.{◌≡◌, ◌&&◌, ◌+◌, ◌<◌, length, eqb, leb};
 ghost use Rattle.bits.specs.Sets.{all};
 ghost use Rattle.model.specs.Commands.{shifts, most_loans};
 ghost use Rattle.delegation.specs.Loans.{rising, loan_words, loans_in_order};

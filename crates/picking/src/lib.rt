@@ -2,9 +2,8 @@
 
 #![tactic(auto)]
 
-ghost use Rattle.std.specs.Prelude.{◌≡◌, true, cond, ◌++◌, ◌+◌, ◌*◌, ◌%◌, ◌≤◌, ◌<◌, max, eqb, length, take};
+ghost use Rattle.std.specs.Prelude.{◌≡◌, true, ◌++◌, ◌+◌, ◌*◌, ◌%◌, ◌≤◌, ◌<◌, length, take};
 ghost use Rattle.bits.specs.Sets.{keep};
-ghost use Rattle.model.specs.Commands.{most_loans};
 ghost use Rattle.delegation.specs.Loans.{key_of, rising, count_of, shift_in};
 ghost use Rattle.delegation.specs.Picking.{picks, picked};
 ghost use Rattle.picking.specs.Runs.{of_key, Appended};

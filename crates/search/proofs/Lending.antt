@@ -90,6 +90,13 @@ other_before ls q i n h e others j l k =
     (λ d. let o : j ≡ i - 1 = omega arith in ap (λ (m : ℕ). is_to_other q (get_or ls m 0)) o ∙ e)
     (λ d. others j (omega arith) k)
 
+-- what is so of the first n loans
+pub others_in : (ls : List ℕ) (q n r : ℕ) → n ≤ length ls → r ≤ length (take n ls) → ToOthers (take n ls) q r (length (take n ls))
+    → (r ≤ n) × ToOthers ls q r n
+others_in ls q n r h b others =
+    let m = length-take-le n ls h in
+    (omega arith, λ j l k. ap (is_to_other q) (sym (get_or-take n ls j 0 k)) ∙ others j l (omega arith))
+
 -- ---- laying out: one loan more, and loans to others
 module _ (ls : List ℕ) (q p : ℕ) where
   -- with a row that has what is lent from place i on, and the loan before it laid out too

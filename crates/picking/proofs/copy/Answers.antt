@@ -1,5 +1,4 @@
 -- Behind what was there before stand the first i loans (`pick_more`, of a test that all pass); at the end these are all.
-use borrow.Author.Rules.{rules}
 use native.Mathlib.Omega.{arith}
 use mathlib.Core.Path.{◌≡◌, refl, sym, ap, ◌∙◌}
 use mathlib.Core.Bool.{true}

@@ -1,6 +1,5 @@
 -- After k turns it is the person's greatest entry of the first k rounds, and the first round that has it (`best_more`); at the end k is
 -- 8. The first such round of eight is below 8 (`first_le`).
-use borrow.Author.Rules.{rules}
 use native.Mathlib.Omega.{arith}
 use mathlib.Core.Path.{◌≡◌, refl, ◌∙◌}
 use Prim.Native.Nat.{ℕ}

@@ -1,5 +1,4 @@
 -- After p turns the first p entries are the heights of their grant bytes (`fill_more`). After 64 turns that is the round.
-use borrow.Author.Rules.{rules}
 use native.Mathlib.Omega.{arith}
 use mathlib.Core.Path.{refl}
 use Prim.Native.Nat.{ℕ}

@@ -5,9 +5,10 @@ use native.Mathlib.Omega.{arith}
 use mathlib.Core.Path.{◌≡◌, sym, ap, ◌∙◌}
 use Prim.Native.Nat.{◌-◌}
 use lib.ListN.{length}
+use lib.Seq.{length-take-le}
 use Rattle.delegation.specs.Search.{lender_to}
 use Rattle.search.proofs.Trace.{lender_here, lender_else}
-use Rattle.search.proofs.Lending.{lender-passed}
+use Rattle.search.proofs.Lending.{lender-passed, others_in}
 use Rattle.search.proofs.lender_to.Goals as goal
 
 pub loop-i-init : goal.loop-i-init
@@ -20,12 +21,13 @@ returns-then-arrive_of-v c =
     ∙ lender_here c.args.ls.now c.args.round.now c.args.q.0 c.args.v c.loop-i.i c.arrive_of.result (omega arith) c.arrive_of.ensures (omega arith))
 
 pub loop-i-preserved : goal.loop-i-preserved
-loop-i-preserved c = (
-  search rules,
-  c.loop-i.invariant.1 ∙ lender_else c.args.ls.now c.args.round.now c.args.q.0 c.args.v c.loop-i.i c.arrive_of.result (omega arith) c.arrive_of.ensures
-      (λ e. omega arith)
-      ∙ lender-passed c.args.ls.now c.args.round.now c.args.q.0 c.args.v c.last_passing-i-in-loop-i.result (c.loop-i.i - 1) c.last_passing-i-in-loop-i.ensures.0 c.last_passing-i-in-loop-i.ensures.1 c.last_passing-i-in-loop-i.ensures.2,
-)
+loop-i-preserved c =
+    let o = others_in c.args.ls.now c.args.q.0 (c.loop-i.i - 1) c.last_passing-i-in-loop-i.result (omega arith) c.last_passing-i-in-loop-i.ensures.0 c.last_passing-i-in-loop-i.ensures.1 in (
+      search rules,
+      c.loop-i.invariant.1 ∙ lender_else c.args.ls.now c.args.round.now c.args.q.0 c.args.v c.loop-i.i c.arrive_of.result (omega arith) c.arrive_of.ensures
+          (λ e. omega arith)
+          ∙ lender-passed c.args.ls.now c.args.round.now c.args.q.0 c.args.v c.last_passing-i-in-loop-i.result (c.loop-i.i - 1) o.0 o.1 (λ z. c.last_passing-i-in-loop-i.ensures.2 z ∙ length-take-le (c.loop-i.i - 1) c.args.ls.now (omega arith)),
+    )
 
 pub returns : goal.returns
 unfolding lender_to

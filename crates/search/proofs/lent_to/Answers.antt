@@ -9,7 +9,7 @@ use lib.ListN.{length, get_or, length-set, get_or-replicate}
 use Rattle.bits.specs.Sets.{most}
 use Rattle.bits.proofs.Indexed.{tabulate_ext}
 use Rattle.search.specs.Lending.{lending, lent_to}
-use Rattle.search.proofs.Lending.{lent-step, lent_skip}
+use Rattle.search.proofs.Lending.{lent-step, lent_skip, others_in}
 use Rattle.search.proofs.lent_to.Goals as goal
 
 pub loop-i-init : goal.loop-i-init
@@ -20,17 +20,18 @@ loop-i-init c = (
 )
 
 pub loop-i-preserved : goal.loop-i-preserved
-loop-i-preserved c = (
-  search rules,
-  ap length c.lend.ensures ∙ simp length-set c.loop-i.invariant.1,
-  λ p h. omega (
-    arith,
-    ap (λ (x : List ℕ). get_or x p 0) c.lend.ensures,
-    c.loop-i.invariant.2 p h,
-    lent-step c.args.ls.now c.args.q.0 p c.loop-i.row c.loop-i.i (omega arith) c.loop-i.invariant.1 h,
-    lent_skip c.args.ls.now c.args.q.0 p c.last_to-i-in-loop-i.result (c.loop-i.i - 1) c.last_to-i-in-loop-i.ensures.0 c.last_to-i-in-loop-i.ensures.1,
-  ),
-)
+loop-i-preserved c =
+    let o = others_in c.args.ls.now c.args.q.0 (c.loop-i.i - 1) c.last_to-i-in-loop-i.result (omega arith) c.last_to-i-in-loop-i.ensures.0 c.last_to-i-in-loop-i.ensures.1 in (
+      search rules,
+      ap length c.lend.ensures ∙ simp length-set c.loop-i.invariant.1,
+      λ p h. omega (
+        arith,
+        ap (λ (x : List ℕ). get_or x p 0) c.lend.ensures,
+        c.loop-i.invariant.2 p h,
+        lent-step c.args.ls.now c.args.q.0 p c.loop-i.row c.loop-i.i (omega arith) c.loop-i.invariant.1 h,
+        lent_skip c.args.ls.now c.args.q.0 p c.last_to-i-in-loop-i.result (c.loop-i.i - 1) o.0 o.1,
+      ),
+    )
 
 pub returns : goal.returns
 unfolding lent_to most

@@ -1,9 +1,8 @@
 -- After each four every entry is the greatest that the loans so far pass on (`raise_part`); after those that are left of the last four
 -- that is all loans.
-use borrow.Author.Rules.{rules}
 use native.Mathlib.Omega.{arith}
 use mathlib.Core.Path.{◌≡◌, refl, sym, ap, ◌∙◌}
-use mathlib.Core.List.{List, []}
+use mathlib.Core.List.{[]}
 use Prim.Native.Nat.{◌+◌, ◌-◌, ◌*◌, ◌/◌}
 use lib.ListN.{length, get_or, take, drop, get_or-replicate, length-drop}
 use lib.Seq.{take_all}

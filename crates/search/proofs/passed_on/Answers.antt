@@ -1,5 +1,4 @@
 -- After p turns `most` is the greatest that the first p lenders pass on (`most_more`); at the end p is 64.
-use borrow.Author.Rules.{rules}
 use native.Mathlib.Omega.{arith}
 use mathlib.Core.Path.{◌≡◌, refl, ap, ◌∙◌}
 use Prim.Native.Nat.{ℕ, ◌-◌, min}

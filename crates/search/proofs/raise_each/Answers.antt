@@ -1,6 +1,5 @@
 -- After i turns each person's entry is raised to the greatest that the first i loans pass on, since a turn raises its borrower's entry
 -- and no other (`raise_more`); at the end that is all loans.
-use borrow.Author.Rules.{rules}
 use native.Mathlib.Omega.{arith}
 use mathlib.Core.Path.{◌≡◌, refl, ap, ◌∙◌}
 use Prim.Native.Nat.{ℕ, max}

@@ -3,7 +3,7 @@
 -- the person pass on is the person's entry of the next round (`next_entry`), all entries of which are below the greatest of round k
 -- (`next_le`): so the same holds of round k + 1 where the greatest of round k less two is not above `top`.
 use mathlib.Core.List.{[]}
-use Prim.Native.Nat.{ℕ, ◌+◌, ◌-◌, ◌≤◌, ◌<◌}
+use Prim.Native.Nat.{ℕ, ◌+◌, ◌<◌}
 use lib.ListN.{length, get_or}
 use Rattle.bits.specs.Sets.{most}
 use Rattle.delegation.specs.Search.{round_at}

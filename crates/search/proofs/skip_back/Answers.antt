@@ -4,7 +4,7 @@ use mathlib.Core.Path.{◌≡◌, sym, ap, subst, ◌∙◌}
 use mathlib.Core.List.{List}
 use Prim.Native.Nat.{ℕ, ◌-◌, ◌≤◌}
 use lib.ListN.{length, get_or, take, drop, take-append-drop}
-use lib.Seq.{length-take-le, take-append-le}
+use lib.Seq.{length-take-le, take-append-le, take_all}
 use lib.Dec.{eqb}
 use Rattle.bits.specs.Sets.{all_below}
 use Rattle.search.specs.Lending.{is_to_other, ToOthers}
@@ -13,7 +13,7 @@ use Rattle.search.proofs.skip_back.Goals as goal
 
 pub loop-front-init : goal.loop-front-init
 loop-front-init c =
-    let n = length-take-le c.args.end c.args.ls.now c.requires in (omega arith, rw n, λ j h l. absurd (omega arith))
+    (omega arith, sym (take_all (length c.args.ls.now) c.args.ls.now (omega arith)), λ j h l. absurd (omega arith))
 
 pub loop-front-preserved : goal.loop-front-preserved
 loop-front-preserved c =
@@ -23,12 +23,13 @@ loop-front-preserved c =
     let parts = c.in-Some.ensures.cases in
     let whole = c.loop-front.invariant.1 in
     let m : length c.in-Some.front.now ≡ n - 16 = omega arith in
-    let inside : n ≤ length ls = omega (arith, c.requires) in
+    let inside : n ≤ length ls = omega arith in
     let flags = subst (λ (x : List ℕ). eqb c.any_to.result 0 ≡ all_below (length x) (λ (j : ℕ). is_to_other q (get_or x j 0)))
     (parts.1 ∙ ap (drop (n - 16)) whole) c.any_to.ensures in
-    let others = others_before ls q n c.args.end c.any_to.result (omega arith) inside flags c.if-any_to-ne0.false c.loop-front.invariant.2 in
+    let others = others_before ls q n (length c.args.ls.now) c.any_to.result (omega arith) inside flags c.if-any_to-ne0.false c.loop-front.invariant.2 in
     let front : take (n - 16) ls ≡ take (n - 16) (take n ls)
-    = ap (take (n - 16)) (sym (take-append-drop n ls)) ∙ take-append-le (n - 16) (take n ls) (drop n ls) (omega (arith, length-take-le n ls inside)) in
-    (omega arith,
-    rw m (parts.0 ∙ ap (take (n - 16)) whole ∙ sym front),
-    subst (λ (k : ℕ). ToOthers ls q k c.args.end) (sym m) others)
+    = ap (take (n - 16)) (sym (take-append-drop n ls)) ∙ take-append-le (n - 16) (take n ls) (drop n ls) (omega (arith, length-take-le n ls inside)) in (
+      omega arith,
+      rw m (parts.0 ∙ ap (take (n - 16)) whole ∙ sym front),
+      subst (λ (k : ℕ). ToOthers ls q k (length c.args.ls.now)) (sym m) others,
+    )

@@ -6,7 +6,7 @@ use Rattle.search.specs.Lending.{ToOthers}
 use Rattle.search.proofs.skip_back.Given as goal
 
 abbrev pub invariant-loop-front : goal.invariant-loop-front
-invariant-loop-front l = (length l.rest ≤ l.end) × (l.rest ≡ take (length l.rest) l.ls) × ToOthers l.ls l.q.0 (length l.rest) l.end
+invariant-loop-front l = (length l.rest ≤ length l.ls) × (l.rest ≡ take (length l.rest) l.ls) × ToOthers l.ls l.q.0 (length l.rest) (length l.ls)
 
 abbrev pub decreases-loop-front : goal.decreases-loop-front
 decreases-loop-front l = length l.rest

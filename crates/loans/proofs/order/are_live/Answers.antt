@@ -1,7 +1,6 @@
 -- The loans by fours and the rest of them are all (`chunks-all`), and each sum is 0 where the three ORed are (`dead_zero`).
 use Rattle.std.proofs.Common.{rules, true}
-use mathlib.Core.Path.{◌≡◌, ◌∙◌, ap}
-use mathlib.Core.Bool.{◌&&◌}
+use mathlib.Core.Path.{◌≡◌, ◌∙◌}
 use Rattle.bits.specs.Sets.{all}
 use Rattle.loans.specs.Words.{unmasked, names_live, none_dead}
 use Rattle.delegation.proofs.Folds.{all_fold}

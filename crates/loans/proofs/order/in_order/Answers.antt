@@ -1,6 +1,5 @@
 -- With the right length, and shift and count within their limits (`limits`), order is four tests of the words: those in use rise, have a
 -- loan's shape and name living items, and the later ones are 0 (`order-parts`).
-use Rattle.std.proofs.Common.{rules}
 use native.Mathlib.Omega.{arith}
 use mathlib.Core.Path.{◌≡◌, sym, ap, ◌∙◌}
 use lib.ListN.{length}
@@ -11,7 +10,7 @@ use lib.Dec.{leb}
 use borrow.Author.Tests.{eq-eqb, ne_eqb}
 use Rattle.bits.specs.Sets.{all}
 use Rattle.model.specs.Commands.{shifts, most_loans}
-use Rattle.delegation.specs.Loans.{rising, loan_words, header_in, count_of, shift_in, used, loans_in_order}
+use Rattle.delegation.specs.Loans.{rising, loan_words, header_in, count_of, shift_in, loans_in_order}
 use Rattle.delegation.specs.declared.loan.Header.{Header}
 use Rattle.loans.specs.Words.{unmasked, shaped, names_live}
 use Rattle.loans.proofs.Parts.{order-parts, length-used}
