@@ -9,7 +9,7 @@ ghost use Rattle.ticketing.specs.Image.{ticket_at};
 ghost use Rattle.records.specs.Records.{places_for, reading_of, inquiry_of, found_of};
 
 use bits::Word;
-use model::Question;
+use model::{Question, Refusal, number};
 use ticketing::Ticket;
 
 // The number of reading an image into a slice, and how many places are to be filled: none beside a refusal. Numbers and no Result, here and
@@ -54,8 +54,7 @@ pub fn judge(image: &[u64], places: usize) -> Reading
             count: 0,
         };
     }
-    let a = tickets::inspect(image);
-    let number = a.number();
+    let number = number(tickets::inspect(image));
     let count = places_for(number);
     Reading { number, count }
 }
@@ -110,22 +109,16 @@ pub fn ask(places: usize, who: u32, on: u32, right: u32) -> Inquiry
             right,
         };
     }
-    let q = Question::read(who, on, right);
-    match q {
-        Question::Beyond => Inquiry {
-            number: 3,
-            count: 0,
-            who,
-            on,
-            right,
-        },
-        Question::Asked { .. } => Inquiry {
-            number: 0,
-            count: Reading::PLACES,
-            who,
-            on,
-            right,
-        },
+    let number = match Question::read(who, on, right) {
+        Some(_) => 0,
+        None => Refusal::OutOfRange.number(),
+    };
+    Inquiry {
+        number,
+        count: places_for(number),
+        who,
+        on,
+        right,
     }
 }
 

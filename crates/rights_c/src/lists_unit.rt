@@ -3,9 +3,9 @@ ghost use Rattle.model.specs.declared.Command.TheVariants.{Create, Delete, Allow
 ghost use Rattle.layouts.specs.Layouts.{lists, flat_unit};
 ghost use Rattle.rights_c.specs.Exports.{Gives, Freshens, Answers, Subjects, Inspects};
 
-use model::number;
 use layouts::flat::FlatUnit;
 use lists::Lists;
+use model::number;
 
 #[unsafe(no_mangle)]
 pub extern "C" fn rights_lists_fresh(image: &mut [u64]) -> u32

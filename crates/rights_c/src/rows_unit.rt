@@ -3,8 +3,8 @@ ghost use Rattle.model.specs.declared.Command.TheVariants.{Create, Delete, Allow
 ghost use Rattle.layouts.specs.Layouts.{rows, flat_unit};
 ghost use Rattle.rights_c.specs.Exports.{Gives, Freshens, Answers, Subjects, Inspects};
 
-use model::number;
 use layouts::flat::FlatUnit;
+use model::number;
 use rows::Rows;
 
 #[unsafe(no_mangle)]

@@ -2,20 +2,18 @@
 ghost use Rattle.ticketing.specs.declared.TicketCommand.TheVariants.{Create, Generate, Pass, Remove, Delete};
 ghost use Rattle.rights_c.specs.Exports.{TicketGives, TicketGenerates, TicketFreshens, TicketAnswers, TicketInspects};
 
-use model::number;
-
 #[unsafe(no_mangle)]
 pub extern "C" fn rights_tickets_fresh(image: &mut [u64]) -> u32
     ensures { TicketFreshens image.old result image.new }
 {
-    number(tickets::fresh(image))
+    model::number(tickets::fresh(image))
 }
 
 #[unsafe(no_mangle)]
 pub extern "C" fn rights_tickets_create(image: &mut [u64], by: u32, on: u32) -> u32
     ensures { TicketGives image.old (Create by on) result image.new }
 {
-    number(tickets::create(image, by, on))
+    model::number(tickets::create(image, by, on))
 }
 
 #[unsafe(no_mangle)]
@@ -37,21 +35,21 @@ pub extern "C" fn rights_tickets_generate(
 pub extern "C" fn rights_tickets_pass(image: &mut [u64], by: u32, to: u32, number: u32) -> u32
     ensures { TicketGives image.old (Pass by to number) result image.new }
 {
-    number(tickets::pass(image, by, to, number))
+    model::number(tickets::pass(image, by, to, number))
 }
 
 #[unsafe(no_mangle)]
 pub extern "C" fn rights_tickets_remove(image: &mut [u64], by: u32, number: u32) -> u32
     ensures { TicketGives image.old (Remove by number) result image.new }
 {
-    number(tickets::remove(image, by, number))
+    model::number(tickets::remove(image, by, number))
 }
 
 #[unsafe(no_mangle)]
 pub extern "C" fn rights_tickets_delete(image: &mut [u64], by: u32, on: u32) -> u32
     ensures { TicketGives image.old (Delete by on) result image.new }
 {
-    number(tickets::delete(image, by, on))
+    model::number(tickets::delete(image, by, on))
 }
 
 #[unsafe(no_mangle)]
@@ -66,12 +64,12 @@ pub extern "C" fn rights_tickets_check(
 {
     let c = tickets::check(image, who, on, right);
     *yes = c.unwrap_or(false) as u32;
-    number(c)
+    model::number(c)
 }
 
 #[unsafe(no_mangle)]
 pub extern "C" fn rights_tickets_inspect(image: &[u64]) -> u32
     ensures { TicketInspects image.now result image.now }
 {
-    number(tickets::inspect(image))
+    model::number(tickets::inspect(image))
 }
