@@ -6,13 +6,14 @@ use Prim.Native.Nat.{ℕ, zero, suc, ◌≤◌}
 use native.Mathlib.Omega.{arith}
 use borrow.Author.Tests.{eqb-true, ne_eqb}
 use lib.Dec.{eqb}
+use Rattle.std.specs.Result.{result_unwrap_or}
 use Rattle.model.specs.declared.Facts.{Facts}
 use Rattle.model.specs.declared.Verb.{Verb}
 use Rattle.model.specs.declared.Arguments.{Arguments}
 use Rattle.std.specs.Prelude.{Some, None, Result, Ok, Err, IsErr, IsErrAnd, ⊤}
 use Rattle.model.specs.declared.Refusal.{Refusal}
 use Rattle.model.specs.declared.Refusal.TheVariants as is
-use Rattle.model.specs.Answers.{answer, refusal_number, refusal_for, number_of, answered, Numbered, effect_of, count_in, checked_yes, Found, nothing, found_in, found_said, table, asked, knows}
+use Rattle.model.specs.Answers.{answer, refusal_number, refusal_for, number_of, answered, Numbered, effect_of, checked_yes, Found, nothing, found_in, found_said, table, asked, knows}
 use Rattle.model.specs.Commands.{fits, items, right_depth, is_empty}
 
 pub refusal_for_lem : (r : Refusal) → refusal_for (refusal_number r) ≡ r
@@ -179,7 +180,7 @@ answered_number (suc n) a k =
     go (Err r) e = ap refusal_number (ap refusal_for (sym e) ∙ refusal_for_lem r) ∙ e
 
 -- an answer with a count that is 0 beside a refusal has it
-pub counted_number : (n k : ℕ) → count_in (answered n (cond (eqb n 0) k 0)) ≡ cond (eqb n 0) k 0
+pub counted_number : (n k : ℕ) → result_unwrap_or (answered n (cond (eqb n 0) k 0)) 0 ≡ cond (eqb n 0) k 0
 unfolding answered
 counted_number zero k = refl
 counted_number (suc n) k = rw (ne_eqb (suc n) 0 (λ z. omega arith))

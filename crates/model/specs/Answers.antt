@@ -1,5 +1,6 @@
 -- What a command answers: the numbers of documents 01 and 02, and the one table of answers for the journal and every unit.
 use Rattle.std.specs.Prelude.{◌≡◌, Bool, true, false, not, ◌&&◌, ◌||◌, cond, Option, Some, None, Result, Ok, Err, ⊤, is_some, ℕ, eqb}
+use Rattle.std.specs.Result.{result_unwrap_or}
 use Rattle.model.specs.declared.Command.{Command}
 use Rattle.model.specs.declared.Verb.{Verb}
 use Rattle.model.specs.declared.Verb.TheVariants as verb
@@ -90,15 +91,9 @@ effect_of s n k x = record { number = n; count = cond (eqb n 0) k 0; state = con
 abbrev pub Returns : {S : Type 0} → Effect S → Result ℕ Refusal → S → Type 0
 Returns q r x = Numbered r q.number q.count × (x ≡ q.state)
 
--- what a command's answer counts: 0 beside a refusal
-abbrev pub count_in : Result ℕ Refusal → ℕ
-count_in (Ok k) = k
-count_in (Err r) = 0
-
 -- ---- a check: whether it says yes
 abbrev pub checked_yes : Result Bool Refusal → Bool
-checked_yes (Ok said) = said
-checked_yes (Err r) = false
+checked_yes c = result_unwrap_or c false
 
 -- ---- the same of a chain unit's check
 -- what it finds: yes or no, depth and number of persons

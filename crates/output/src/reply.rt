@@ -1,6 +1,7 @@
 // What the three units reply to a line.
 ghost use Rattle.std.specs.Prelude.{◌≡◌};
-ghost use Rattle.model.specs.Answers.{number_of, count_in, checked_yes, found_in};
+ghost use Rattle.std.specs.Result.{result_unwrap_or};
+ghost use Rattle.model.specs.Answers.{number_of, checked_yes, found_in};
 ghost use Rattle.output.specs.declared.reply.Said.TheVariants.{Number};
 ghost use Rattle.output.specs.Output.{reply, malformed_reply, offered_of, command_tail, check_said, check_tail};
 
@@ -88,7 +89,7 @@ impl From<Result<Option<BestChain>, Refusal>> for Tail {
 impl Tail {
     // After a command, by what the chain unit made of it.
     pub fn of_command(c: Command, chain: Result<u32, Refusal>) -> Tail
-        ensures { result ≡ command_tail c (number_of chain) (count_in chain) }
+        ensures { result ≡ command_tail c (number_of chain) (result_unwrap_or chain 0) }
     {
         if !c.is_sweep() {
             return Tail::Nothing;
@@ -122,7 +123,7 @@ impl Reply {
         chain: Result<u32, Refusal>,
     ) -> Reply
         ensures { result ≡ reply (offered_of list) (offered_of row) (Number (number_of chain))
-            (command_tail c (number_of chain) (count_in chain)) }
+            (command_tail c (number_of chain) (result_unwrap_or chain 0)) }
     {
         Reply {
             list: Said::from(list),

@@ -5,9 +5,10 @@ use mathlib.Core.List.{List}
 use Prim.Native.Nat.{ℕ}
 use Rattle.model.specs.declared.Command.{Command}
 use Rattle.std.specs.Prelude.{Option, Some, None, Result, ⊤}
+use Rattle.std.specs.Result.{result_unwrap_or}
 use Rattle.model.specs.declared.BestChain.{BestChain}
 use Rattle.model.specs.declared.Refusal.{Refusal}
-use Rattle.model.specs.Answers.{number_of, count_in, answer_for, checked_yes, found_in, flat}
+use Rattle.model.specs.Answers.{number_of, answer_for, checked_yes, found_in, flat}
 use Rattle.layouts.specs.Machine.{answer_of, counted_of, Offers, RanCounting}
 use Rattle.layouts.specs.Layouts.{Layout, lists, rows, flat_unit, check_number, check_yes, Checks}
 use Rattle.delegation.specs.Images.{images}
@@ -37,11 +38,11 @@ module _ (u : Units) where
   -- a command
   pub command_replies : (c : Command) (l r : Option (Result ⊤ Refusal)) (a : Result ℕ Refusal) (x y g t : List ℕ) (s : Reply) → Offers (flat_unit lists) u.lists c l x
       → Offers (flat_unit rows) u.rows c r y → RanCounting chain_unit u.chains c a (images g t)
-      → s ≡ reply (offered_of l) (offered_of r) (Number (number_of a)) (command_tail c (number_of a) (count_in a))
+      → s ≡ reply (offered_of l) (offered_of r) (Number (number_of a)) (command_tail c (number_of a) (result_unwrap_or a 0))
       → Replies u (Run c) s lent_buffer (units_in x y g t)
   unfolding reply_of via_of units_after
   command_replies c l r a x y g t s hl hr hc e =
-      let k : count_in a ≡ counted_of chain_unit u.chains c = ap count_in hc.0.1 ∙ counted_number (answer_of chain_unit u.chains c) _ in
+      let k : result_unwrap_or a 0 ≡ counted_of chain_unit u.chains c = ap (λ (x : Result ℕ Refusal). result_unwrap_or x 0) hc.0.1 ∙ counted_number (answer_of chain_unit u.chains c) _ in
       record {
         reply =
             e ∙ (λ i. reply (offered_said_lem lists u.lists c l x hl i) (offered_said_lem rows u.rows c r y hr i)

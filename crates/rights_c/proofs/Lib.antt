@@ -1,1 +1,2 @@
 pub mod Persons
+pub mod Found
