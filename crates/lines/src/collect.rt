@@ -5,7 +5,8 @@ ghost use Rattle.lines.specs.Collect.{before_newline, nothing_held, begun, past,
 
 use crate::Parsed;
 
-// How much of a line is held, and whether it is longer than the buffer: both, for the length stays where a line goes past it (`held_after`).
+// How much of a line is held, and whether it is longer than the buffer: both, for the length stays where a line goes past it
+// (`held_after`).
 #[derive(Clone, Copy)]
 pub struct Partial {
     pub len: usize,
