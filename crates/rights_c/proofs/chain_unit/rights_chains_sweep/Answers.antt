@@ -9,7 +9,6 @@ use Rattle.rights_c.proofs.chain_unit.rights_chains_sweep.Goals as goal
 
 pub returns : goal.returns
 returns c = (
-  c.number.ensures ∙ c.sweep-counted.ensures.0.0,
-  c.sweep-counted.ensures.1,
+  (c.number.ensures ∙ c.sweep-counted.ensures.0.0, c.sweep-counted.ensures.1),
   c.unwrap_or.ensures ∙ ap (λ (x : Result ℕ Refusal). result_unwrap_or x 0) c.sweep-counted.ensures.0.1 ∙ counted_number _ _,
 )

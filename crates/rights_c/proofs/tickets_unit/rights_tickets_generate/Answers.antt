@@ -9,7 +9,6 @@ use Rattle.rights_c.proofs.tickets_unit.rights_tickets_generate.Goals as goal
 
 pub returns : goal.returns
 returns c = (
-  c.number.ensures ∙ c.generate-given.ensures.0.0,
-  c.generate-given.ensures.1,
+  (c.number.ensures ∙ c.generate-given.ensures.0.0, c.generate-given.ensures.1),
   c.unwrap_or.ensures ∙ ap (λ (x : Result ℕ Refusal). result_unwrap_or x 0) c.generate-given.ensures.0.1 ∙ counted_number _ _,
 )
