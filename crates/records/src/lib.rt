@@ -126,6 +126,8 @@ pub fn ask(places: usize, who: u32, on: u32, right: u32) -> Inquiry
 pub fn look(q: Inquiry, found: u32, t: Ticket) -> u32
     ensures { result ≡ found_of q found t }
 {
-    let fits = t.item as u32 == q.on && t.right as u32 == q.right && t.holders.has(q.who);
-    if fits { 1 } else { found }
+    if t.item as u32 == q.on && t.right as u32 == q.right && t.holders.has(q.who) {
+        return 1;
+    }
+    found
 }
