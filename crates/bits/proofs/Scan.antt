@@ -2,8 +2,8 @@
 use mathlib.Core.Path.{◌≡◌, refl, sym, ap, ap₂, ◌∙◌}
 use mathlib.Core.Bool.{Bool, true, false, not, ◌&&◌, ◌||◌, cond, and_comm, or_comm, or-true, or-false, and_assoc, and-true}
 use mathlib.Core.List.{List}
-use Prim.Native.Nat.{ℕ, zero, suc, ◌+◌, ◌-◌, ◌*◌, ◌^◌, ◌≤◌, ◌<◌}
-use native.Mathlib.Nat.{mod-eq_of_lt, add-zero, pow-succ'}
+use Prim.Native.Nat.{ℕ, zero, suc, ◌+◌, ◌-◌, ◌^◌, ◌≤◌, ◌<◌}
+use native.Mathlib.Nat.{mod-eq_of_lt, pow-succ'}
 use native.Mathlib.Numerals.{add-one}
 use native.Mathlib.Omega.{arith}
 use borrow.Author.Tests.{eqb-true, eq-eqb, ne_eqb}
@@ -151,22 +151,9 @@ and-or a b m =
     dist true false false = refl
     dist false y z = refl
 
-or_masked : (n : ℕ) (f : ℕ → ℕ) (m : ℕ) → eqb (bit_and (or_below n f) m) 0 ≡ all_below n (λ k. eqb (bit_and (f k) m) 0)
+pub or_masked : (n : ℕ) (f : ℕ → ℕ) (m : ℕ) → eqb (bit_and (or_below n f) m) 0 ≡ all_below n (λ k. eqb (bit_and (f k) m) 0)
 unfolding or_below all_below
 or_masked zero f m = ap (λ (x : ℕ). eqb x 0) (and_zero_l m)
 or_masked (suc n) f m =
     ap (λ (x : ℕ). eqb x 0) (and-or (or_below n f) (f n) m) ∙ or-zero (bit_and (or_below n f) m) (bit_and (f n) m)
     ∙ and_comm (eqb (bit_and (or_below n f) m) 0) (eqb (bit_and (f n) m) 0) ∙ ap (λ x. eqb (bit_and (f n) m) 0 && x) (or_masked n f m)
-
--- byte p of eight rows of 64 bytes, in one expression
-abbrev eight : List ℕ → ℕ → ℕ
-eight s p =
-    bit_or (bit_or (bit_or (bit_or (bit_or (bit_or (bit_or (get_or s p 0) (get_or s (p + 64) 0)) (get_or s (p + 128) 0)) (get_or s (p + 192) 0))
-    (get_or s (p + 256) 0)) (get_or s (p + 320) 0)) (get_or s (p + 384) 0)) (get_or s (p + 448) 0)
-
-eight_is : (s : List ℕ) (p : ℕ) → eight s p ≡ or_below 8 (λ i. get_or s (p + 64 * i) 0)
-unfolding or_below
-eight_is s p = sym (rw (add-zero p, or_zero_l (get_or s p 0)))
-
-pub eight_masked : (s : List ℕ) (p m : ℕ) → eqb (bit_and (eight s p) m) 0 ≡ all_below 8 (λ i. eqb (bit_and (get_or s (p + 64 * i) 0) m) 0)
-eight_masked s p m = ap (λ (x : ℕ). eqb (bit_and x m) 0) (eight_is s p) ∙ or_masked 8 (λ i. get_or s (p + 64 * i) 0) m

@@ -4,7 +4,8 @@ ghost use Rattle.bits.specs.Zeros.{zeroed, spaced, with_bits, chosen};
 
 use crate::Word;
 
-// `count` bytes: the one at `at`, and each `step` further. A helper for the units above: they know that the last is in the image.
+// `count` bytes: the one at `at`, and each `step` further. A helper for the units above: they know that the last is in the image. By
+// place, since a step may be 0, which `step_by` refuses.
 pub fn clear_each(image: &mut [u8], at: usize, step: usize, count: usize)
     requires { at + step * count < length image.old + step }
     ensures { image.new ≡ zeroed (spaced at step count) image.old }

@@ -1,6 +1,6 @@
 // The grants image of a chain unit, 32,776 bytes: bytes 0 to 7 are the live set, least first; byte 8 + 512 * on + 64 * right + person
 // has bit d for each depth d of the person's grants there. These are helpers for the chain unit: it has judged lengths and ranges, so
-// each function may require them.
+// each function may require them. Each takes any slice, since a public contract asks no narrower type of its callers.
 
 #![tactic(auto)]
 

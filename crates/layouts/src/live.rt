@@ -100,14 +100,7 @@ pub fn hides(block: &[u8], all: u8, masks: &[u8; 64]) -> bool
 {
     let mut bits = 0;
     for p in 0..64 {
-        let x = block[p]
-            | block[p + 64]
-            | block[p + 128]
-            | block[p + 192]
-            | block[p + 256]
-            | block[p + 320]
-            | block[p + 384]
-            | block[p + 448];
+        let x = (0..8).fold(0, |x, i| x | block[p + 64 * i]);
         bits |= x & (all | masks[p]);
     }
     bits == 0
