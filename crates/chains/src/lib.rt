@@ -223,7 +223,12 @@ pub fn offer(grants: &mut [u8], loans: &mut [u32], c: Command) -> Result<u32, Re
 }
 
 // The same, given what numbers 1 and 2 say of the images: `Done`, from a caller that has kept them in order.
-fn offer_given(order: Result<(), Refusal>, grants: &mut [u8], loans: &mut [u32], c: Command) -> Result<u32, Refusal>
+fn offer_given(
+    order: Result<(), Refusal>,
+    grants: &mut [u8],
+    loans: &mut [u32],
+    c: Command,
+) -> Result<u32, Refusal>
     requires { number_of order ≡ chain_guarded (images grants.old loans.old) true 0 }
     ensures { RanCounting chain_unit (images grants.old loans.old) c result
         (images grants.new loans.new) }
@@ -427,12 +432,7 @@ fn answer_in(
 }
 
 // The same, with a buffer by the number of loans in use.
-fn answer(
-    grants: &[u8],
-    loans: &[u32],
-    q: Question,
-    chain: &mut [u8],
-) -> Option<BestChain>
+fn answer(grants: &[u8], loans: &[u32], q: Question, chain: &mut [u8]) -> Option<BestChain>
     requires { InShape grants.now loans.now q.who.0 q.on.0 q.right.0 (length chain.old) }
     ensures { (result ≡ found_said (found_of grants.now loans.now (8 * q.on.0 + q.right.0) q.who.0))
         × (chain.new ≡ chain_of grants.now loans.now (8 * q.on.0 + q.right.0) q.who.0) }

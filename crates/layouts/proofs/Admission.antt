@@ -67,10 +67,10 @@ module _ {S : Type 0} (M : Machine S) (s : S) (c : Command) where
     k.0,
     k.1,
     λ r x j.
-    let b = judged_in M s (raw_of t) in
-    let n = answered_number b.number b.count (table-known (M.facts s (raw_of t)) (raw_of t)) in
-    let q = k.2 (answered b.number b.count) x ((n, refl), j.1) in
-    (numbered r _ (j.0 ∙ sym n ∙ q.0.0), q.1),
+        let b = judged_in M s (raw_of t) in
+        let n = answered_number b.number b.count (table-known (M.facts s (raw_of t)) (raw_of t)) in
+        let q = k.2 (answered b.number b.count) x ((n, refl), j.1) in
+        (numbered r _ (j.0 ∙ sym n ∙ q.0.0), q.1),
   )
 
   pub command_admitted : (order : Result ⊤ Refusal) → number_of order ≡ guarded_by (M.sized s) (M.ordered s) 0

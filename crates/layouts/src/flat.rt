@@ -149,7 +149,13 @@ pub trait FlatUnit<const CELLS: usize> {
         run::<CELLS, Self>(image, c)
     }
 
-    final fn withdraw(image: &mut [Self::Cell], by: u32, to: u32, on: u32, right: u32) -> Result<(), Refusal>
+    final fn withdraw(
+        image: &mut [Self::Cell],
+        by: u32,
+        to: u32,
+        on: u32,
+        right: u32,
+    ) -> Result<(), Refusal>
         ensures { Ran (flat_unit layout) (cells image.old) (Withdraw by to on right) result (cells image.new) }
     {
         run::<CELLS, Self>(image, Command::Withdraw { by, to, on, right })

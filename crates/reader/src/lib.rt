@@ -21,7 +21,12 @@ pub struct Replied {
 }
 
 // Makes the three units fresh; number 1 alone, and then nothing is changed.
-pub fn fresh(list: &mut [u64], row: &mut [u8], grants: &mut [u8], loans: &mut [u32]) -> Result<(), Refusal>
+pub fn fresh(
+    list: &mut [u64],
+    row: &mut [u8],
+    grants: &mut [u8],
+    loans: &mut [u32],
+) -> Result<(), Refusal>
     ensures { Starts (units_in list.old row.old grants.old loans.old) result
         (units_in list.new row.new grants.new loans.new) }
 {
