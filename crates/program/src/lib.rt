@@ -137,6 +137,8 @@ pub fn run<I: Read, O: Print>(
     ensures { Ran (fresh_session buf.old)
         (units_in list.new row.new grants.new loans.new) buf.new }
 {
-    reader::fresh(list, row, grants, loans);
+    // The buffers have their lengths, so making them fresh is not refused.
+    let _ = reader::fresh(list, row, grants, loans);
+    // A failure ends the run, and the closing line is not written.
     let _ = read_all(input, output, list, row, grants, loans, buf, out);
 }
