@@ -35,6 +35,10 @@ stops s c n e z = (sym e, sym (rw (e, ne_eqb n 0 z)))
 pub goes : (s x : List ℕ) (c : TicketCommand) → table (machine_of s) c ≡ 0 → x ≡ image_of (apply (machine_of s) c) → Judged s c 0 x
 goes s x c e h = (sym e, h ∙ sym (rw e))
 
+-- number 1: a buffer of another length
+pub order-length : (s : List ℕ) → (length s ≡ ticket_words → ⊥) → 1 ≡ guarded s 0
+order-length s h = rw (ne_eqb (length s) ticket_words h)
+
 -- numbers 1 and 2 are passed: the image has its length and is in order
 pub in_order : (s : List ℕ) → guarded s 0 ≡ 0 → (length s ≡ ticket_words) × (is_in_order (machine_of s) ≡ true)
 in_order s e = go (eqb (length s) ticket_words) (is_in_order (machine_of s)) refl refl e
@@ -55,7 +59,7 @@ module _ (s : List ℕ) (by on right : ℕ) where
       let x = leb-true by 63 a in
       let y = leb-true on 63 b in
       let z = leb-true right 7 c in
-      record { size = v.0; order = v.1; by-item = omega arith; on-item = omega arith; right_in = omega arith }
+      record { order = v.1; by-item = omega arith; on-item = omega arith; right_in = omega arith }
 
 -- ---- a command
 module _ (s : List ℕ) (c : TicketCommand) (by on right : ℕ) (same : fits c ≡ items by on && right_depth right 0) where
@@ -119,11 +123,11 @@ module _ (s : List ℕ) (p o r : ℕ) (order : Result ⊤ Refusal) (e : number_o
       (refused_is a _ _ (check_admitted (eqb (length s) ticket_words) (is_in_order (machine_of s)) p o r order e (Err a) h), refl)
 
   module _ (q : Question) (h : Ok q ≡ check_admission order p o r) where
-    pub check_reads : (length s ≡ ticket_words) × (q.who.0 < 64) × (q.on.0 < 64) × (q.right.0 < 8)
+    pub check_reads : (q.who.0 < 64) × (q.on.0 < 64) × (q.right.0 < 8)
     check_reads =
         let asks = check_admitted (eqb (length s) ticket_words) (is_in_order (machine_of s)) p o r order e (Ok q) h in
         let b = asked-ranged p o r asks.2 in
-        ((in_order s asks.0).0, rw asks.3 b.0, rw asks.3 b.1, rw asks.3 b.2)
+        (rw asks.3 b.0, rw asks.3 b.1, rw asks.3 b.2)
 
     pub check_says : (b : Bool) → b ≡ holds (machine_of s) q.who.0 q.on.0 q.right.0 → Checks s p o r (Ok b) s
     check_says b k =

@@ -109,7 +109,6 @@ module _ (s : List ℕ) (size : length s ≡ ticket_words) where
         let o = v.order in
         let m : get_or s 1 0 ≤ last_number = search (fst, snd, leb-true) in
         record {
-          size = size;
           free = h.0;
           first = h.1;
           left = lt_of_le-ne m h.2;

@@ -359,12 +359,11 @@ live-issued [] l by on right e = absurd (omega arith)
 live-issued (a ∷ []) l by on right e = absurd (omega arith)
 live-issued (a ∷ b ∷ s) l by on right e = refl
 
-pub live-room : (s : List ℕ) (l p by on right : ℕ) → Issued s p by on right → Issued (set s 0 l) p by on right
+pub live-room : (s : List ℕ) (l p by on right : ℕ) → length s ≡ ticket_words → Issued s p by on right → Issued (set s 0 l) p by on right
 unfolding machine_of
-live-room [] l p by on right v = v
-live-room (a ∷ []) l p by on right v = absurd (let e = v.size in omega arith)
-live-room (a ∷ b ∷ s) l p by on right v = record {
-  size = v.size;
+live-room [] l p by on right e v = absurd (omega arith)
+live-room (a ∷ []) l p by on right e v = absurd (omega arith)
+live-room (a ∷ b ∷ s) l p by on right e v = record {
   free = v.free;
   first = v.first;
   left = v.left;

@@ -1,5 +1,5 @@
 -- The places of an image, as the unit's own functions speak of them.
-use Rattle.std.specs.Prelude.{◌≡◌, Option, Some, None, Result, Ok, Err, Bool, true, false, not, ◌&&◌, cond, List, [], ◌∷◌, map, ℕ, suc, ◌+◌, ◌*◌, ◌<◌, ◌≤◌, length, take, get_or, set, eqb}
+use Rattle.std.specs.Prelude.{◌≡◌, Option, Some, None, Result, Ok, Err, Bool, true, false, not, ◌&&◌, cond, List, [], ◌∷◌, map, ℕ, suc, ◌+◌, ◌*◌, ◌<◌, ◌≤◌, take, get_or, set, eqb}
 use Rattle.bits.specs.Sets.{all, keep}
 use Rattle.bits.specs.Bits.{bit}
 use Rattle.model.specs.Answers.{refusal_number, number_of, answer_with, ◌when◌else◌}
@@ -8,7 +8,7 @@ use Rattle.model.specs.declared.Refusal.{Refusal}
 use Rattle.ticketing.specs.declared.TicketCommand.TheVariants.{Generate}
 use Rattle.ticketing.specs.Machine.{is_live, table, full, spent, last_number, most_tickets}
 use Rattle.ticketing.specs.Order.{record_ok, is_in_order}
-use Rattle.ticketing.specs.Image.{ticket_words, machine_of, word_of}
+use Rattle.ticketing.specs.Image.{machine_of, word_of}
 use Rattle.ticketing.specs.Unit.{Judged}
 
 -- an item and a right as one number
@@ -34,7 +34,6 @@ live_numbers ts = map (λ (t : Ticket). t.number) (keep is_live ts)
 
 -- what every command finds past numbers 1 to 3
 pub record Ready (s : List ℕ) (by on right : ℕ) : Type 0 where
-  pub size : length s ≡ ticket_words
   pub order : is_in_order (machine_of s) ≡ true
   pub by-item : by < 64
   pub on-item : on < 64
@@ -42,7 +41,6 @@ pub record Ready (s : List ℕ) (by on right : ℕ) : Type 0 where
 
 -- a ticket may be put at that place: it is the first free one, and a number is left
 pub record Issued (s : List ℕ) (place by on right : ℕ) : Type 0 where
-  pub size : length s ≡ ticket_words
   pub free : place < 1024
   pub first : place ≡ place_of is_free (machine_of s).records
   pub left : get_or s 1 0 < last_number

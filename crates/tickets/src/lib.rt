@@ -10,7 +10,7 @@ ghost use Rattle.model.specs.Answers.{number_of, ◌when◌else◌};
 ghost use Rattle.ticketing.specs.declared.TicketCommand.TheVariants.{Create, Generate, Pass, Remove, Delete};
 ghost use Rattle.ticketing.specs.Machine.{ticket, tickets, most_tickets, lives, is_number, holds, issue, without};
 ghost use Rattle.ticketing.specs.Order.{sound, record_ok, differ, is_in_order};
-ghost use Rattle.ticketing.specs.Image.{ticket_words, word_of, ticket_of, ticket_at, machine_of, image_of};
+ghost use Rattle.ticketing.specs.Image.{word_of, ticket_of, ticket_at, machine_of, image_of};
 ghost use Rattle.ticketing.specs.Unit.{guarded, Judged, Ran, Generates, Inspects, Checks, fresh_image, Freshens};
 ghost use Rattle.tickets.specs.Places.{key_of, held_for, is_free, Ready, Issued, JudgedGenerate, placed, placed_ticket, FirstPlace, IsPlace, HasRoom, Gathered};
 
@@ -50,9 +50,9 @@ impl Tickets {
 pub fn fresh(image: &mut [u64]) -> Result<(), Refusal>
     ensures { Freshens image.old result image.new }
 {
-    if image.len() != Tickets::WORDS {
+    let Some(image) = image.as_mut_array::<{ Tickets::WORDS }>() else {
         return Err(Refusal::WrongLength);
-    }
+    };
     let start = Tickets::fresh();
     words::clear(image);
     image[0] = start.live;
@@ -62,23 +62,23 @@ pub fn fresh(image: &mut [u64]) -> Result<(), Refusal>
 }
 
 // The record at a place, and the set of its holders.
-fn record_at(image: &[u64], k: usize) -> u64
-    requires { (length image.now ≡ ticket_words) × (k < most_tickets) }
+fn record_at(image: &[u64; Tickets::WORDS], k: usize) -> u64
+    requires { k < most_tickets }
     ensures { (result ≡ get_or image.now (2 + 2 * k) 0) × (result < 18446744073709551616) }
 {
     image[2 + 2 * k]
 }
 
-fn holders_at(image: &[u64], k: usize) -> u64
-    requires { (length image.now ≡ ticket_words) × (k < most_tickets) }
+fn holders_at(image: &[u64; Tickets::WORDS], k: usize) -> u64
+    requires { k < most_tickets }
     ensures { (result ≡ get_or image.now (3 + 2 * k) 0) × (result < 18446744073709551616) }
 {
     image[3 + 2 * k]
 }
 
 // Both words of a place.
-fn put_record(image: &mut [u64], k: usize, w: u64, h: u64)
-    requires { (length image.old ≡ ticket_words) × (k < most_tickets) }
+fn put_record(image: &mut [u64; Tickets::WORDS], k: usize, w: u64, h: u64)
+    requires { k < most_tickets }
     ensures { image.new ≡ placed image.old k w h }
 {
     image[2 + 2 * k] = w;
@@ -103,8 +103,7 @@ fn is_sound(w: u64, h: u64, live: u64, next: u64) -> bool
 // The numbers of the live tickets, in the order of their places, into the buffer, and how many there are; none where a place is not in
 // order. A place is all zero, which most are; or it has a holder, and its ticket may stand. All places are looked at: most images are in
 // order, and a way out of the loop makes it slower.
-fn gather(image: &[u64], buffer: &mut [u32; 1024]) -> Option<usize>
-    requires { length image.now ≡ ticket_words }
+fn gather(image: &[u64; Tickets::WORDS], buffer: &mut [u32; 1024]) -> Option<usize>
     ensures { Gathered image.now buffer.new result }
 {
     let live = image[0];
@@ -124,8 +123,8 @@ fn gather(image: &[u64], buffer: &mut [u32; 1024]) -> Option<usize>
 }
 
 // Whether every place is as it may be, and live numbers differ.
-fn records_ok(image: &[u64]) -> bool
-    requires { (length image.now ≡ ticket_words) × (get_or image.now 1 0 < 4294967296) }
+fn records_ok(image: &[u64; Tickets::WORDS]) -> bool
+    requires { get_or image.now 1 0 < 4294967296 }
     ensures { result ≡ all (record_ok (get_or image.now 0 0) (get_or image.now 1 0))
         (machine_of image.now).records && differ (machine_of image.now).records }
 {
@@ -137,8 +136,7 @@ fn records_ok(image: &[u64]) -> bool
 }
 
 // In order: item 0 lives, the next number is one, every place is as it may be, and live numbers differ.
-fn in_order(image: &[u64]) -> bool
-    requires { length image.now ≡ ticket_words }
+fn in_order(image: &[u64; Tickets::WORDS]) -> bool
     ensures { result ≡ is_in_order (machine_of image.now) }
 {
     if !image[0].has(0) {
@@ -150,22 +148,20 @@ fn in_order(image: &[u64]) -> bool
     records_ok(image)
 }
 
-// Numbers 1 and 2.
-fn order(image: &[u64]) -> Result<(), Refusal>
+// Number 2, of an image that has its length.
+fn order(image: &[u64; Tickets::WORDS]) -> Result<(), Refusal>
     ensures { number_of result ≡ guarded image.now 0 }
 {
-    if image.len() != Tickets::WORDS {
-        return Err(Refusal::WrongLength);
+    if in_order(image) {
+        Ok(())
+    } else {
+        Err(Refusal::NotInOrder)
     }
-    if !in_order(image) {
-        return Err(Refusal::NotInOrder);
-    }
-    Ok(())
 }
 
 // Whether the item lives.
-fn is_live(image: &[u64], i: Item) -> bool
-    requires { (length image.now ≡ ticket_words) × (i.0 < 64) }
+fn is_live(image: &[u64; Tickets::WORDS], i: Item) -> bool
+    requires { i.0 < 64 }
     ensures { result ≡ lives (machine_of image.now) i.0 }
 {
     image[0].has(i.number())
@@ -185,16 +181,16 @@ fn place_where<F: Fn(usize) -> bool>(passes: F) -> Option<usize>
 }
 
 // Whether the ticket at that place is for the item and right of the key, and the person holds it.
-fn is_held(image: &[u64], k: usize, who: Item, key: u64) -> bool
-    requires { (length image.now ≡ ticket_words) × (k < most_tickets) × (who.0 < 64) }
+fn is_held(image: &[u64; Tickets::WORDS], k: usize, who: Item, key: u64) -> bool
+    requires { (k < most_tickets) × (who.0 < 64) }
     ensures { result ≡ held_for who.0 key (ticket_at image.now k) }
 {
     (record_at(image, k) >> 32) % 65536 == key && holders_at(image, k).has(who.number())
 }
 
 // Whether the person holds a ticket for the item and right of the key.
-fn holds_key(image: &[u64], who: Item, key: u64) -> bool
-    requires { (length image.now ≡ ticket_words) × (who.0 < 64) }
+fn holds_key(image: &[u64; Tickets::WORDS], who: Item, key: u64) -> bool
+    requires { who.0 < 64 }
     ensures { result ≡ any (held_for who.0 key) (machine_of image.now).records }
 {
     place_where(|k| is_held(image, k, who, key)).is_some()
@@ -209,16 +205,15 @@ fn key_of(on: Item, right: Right) -> u64
 }
 
 // Whether the person holds a ticket for that item and right.
-fn is_holder(image: &[u64], who: Item, on: Item, right: Right) -> bool
-    requires { (length image.now ≡ ticket_words) × (who.0 < 64) × (on.0 < 64) × (right.0 < 8) }
+fn is_holder(image: &[u64; Tickets::WORDS], who: Item, on: Item, right: Right) -> bool
+    requires { (who.0 < 64) × (on.0 < 64) × (right.0 < 8) }
     ensures { result ≡ holds (machine_of image.now) who.0 on.0 right.0 }
 {
     holds_key(image, who, key_of(on, right))
 }
 
 // The first place without a live ticket.
-fn first_free(image: &[u64]) -> Option<usize>
-    requires { length image.now ≡ ticket_words }
+fn first_free(image: &[u64; Tickets::WORDS]) -> Option<usize>
     ensures { IsPlace is_free image.now result }
 {
     place_where(|k| holders_at(image, k) == 0)
@@ -232,16 +227,14 @@ fn is_number(w: u64, h: u64, number: u32) -> bool
 }
 
 // The place of the live ticket of that number.
-fn find(image: &[u64], number: u32) -> Option<usize>
-    requires { length image.now ≡ ticket_words }
+fn find(image: &[u64; Tickets::WORDS], number: u32) -> Option<usize>
     ensures { IsPlace (is_number number) image.now result }
 {
     place_where(|k| is_number(record_at(image, k), holders_at(image, k), number))
 }
 
 // The place for a new ticket. Numbers 15 and 16: no place is free, no number is left.
-fn room(image: &[u64]) -> Result<usize, Refusal>
-    requires { length image.now ≡ ticket_words }
+fn room(image: &[u64; Tickets::WORDS]) -> Result<usize, Refusal>
     ensures { HasRoom image.now result }
 {
     let Some(place) = first_free(image) else {
@@ -264,7 +257,7 @@ fn record_of(number: u64, on: Item, right: Right, by: Item) -> u64
 }
 
 // A ticket at that place, under the next number, which rises. Its issuer holds it.
-fn put_ticket(image: &mut [u64], place: usize, by: Item, on: Item, right: Right)
+fn put_ticket(image: &mut [u64; Tickets::WORDS], place: usize, by: Item, on: Item, right: Right)
     requires { Issued image.old place by.0 on.0 right.0 }
     ensures { image.new
         ≡ image_of (issue (machine_of image.old) (get_or image.old 0 0) by.0 on.0 right.0) }
@@ -277,7 +270,7 @@ fn put_ticket(image: &mut [u64], place: usize, by: Item, on: Item, right: Right)
 }
 
 // create past numbers 1 to 3: 4, 6, 15, 16.
-fn make(image: &mut [u64], by: Item, on: Item) -> Result<(), Refusal>
+fn make(image: &mut [u64; Tickets::WORDS], by: Item, on: Item) -> Result<(), Refusal>
     requires { Ready image.old by.0 on.0 0 }
     ensures { Judged image.old (Create by.0 on.0) (number_of result) image.new }
 {
@@ -294,7 +287,7 @@ fn make(image: &mut [u64], by: Item, on: Item) -> Result<(), Refusal>
 }
 
 // generate past numbers 1 to 3: 4, 5, 17, 15, 16.
-fn give(image: &mut [u64], by: Item, on: Item, right: Right) -> Result<u32, Refusal>
+fn give(image: &mut [u64; Tickets::WORDS], by: Item, on: Item, right: Right) -> Result<u32, Refusal>
     requires { Ready image.old by.0 on.0 right.0 }
     ensures { JudgedGenerate image.old by.0 on.0 right.0 result image.new }
 {
@@ -314,7 +307,12 @@ fn give(image: &mut [u64], by: Item, on: Item, right: Right) -> Result<u32, Refu
 }
 
 // pass past numbers 1 to 3: 4, 5, 17.
-fn add_holder(image: &mut [u64], by: Item, to: Item, number: u32) -> Result<(), Refusal>
+fn add_holder(
+    image: &mut [u64; Tickets::WORDS],
+    by: Item,
+    to: Item,
+    number: u32,
+) -> Result<(), Refusal>
     requires { Ready image.old by.0 to.0 0 }
     ensures { Judged image.old (Pass by.0 to.0 number) (number_of result) image.new }
 {
@@ -337,7 +335,7 @@ fn add_holder(image: &mut [u64], by: Item, to: Item, number: u32) -> Result<(), 
 }
 
 // remove past numbers 1 to 3: 4, 17.
-fn end_ticket(image: &mut [u64], by: Item, number: u32) -> Result<(), Refusal>
+fn end_ticket(image: &mut [u64; Tickets::WORDS], by: Item, number: u32) -> Result<(), Refusal>
     requires { Ready image.old by.0 0 0 }
     ensures { Judged image.old (Remove by.0 number) (number_of result) image.new }
 {
@@ -356,8 +354,8 @@ fn end_ticket(image: &mut [u64], by: Item, number: u32) -> Result<(), Refusal>
 }
 
 // The item out of the holders at that place, where there is a ticket; it ends where it is the item's, or has no holder left.
-fn drop_at(image: &mut [u64], k: usize, on: Item)
-    requires { (length image.old ≡ ticket_words) × (k < most_tickets) × (on.0 < 64) }
+fn drop_at(image: &mut [u64; Tickets::WORDS], k: usize, on: Item)
+    requires { (k < most_tickets) × (on.0 < 64) }
     ensures { image.new ≡ placed_ticket image.old k (without on.0 (ticket_at image.old k)) }
 {
     let w = record_at(image, k);
@@ -374,8 +372,8 @@ fn drop_at(image: &mut [u64], k: usize, on: Item)
 }
 
 // The same at every place.
-fn drop_all(image: &mut [u64], on: Item)
-    requires { (length image.old ≡ ticket_words) × (on.0 < 64) }
+fn drop_all(image: &mut [u64; Tickets::WORDS], on: Item)
+    requires { on.0 < 64 }
     ensures { image.new ≡ image_of (tickets (get_or image.old 0 0) (get_or image.old 1 0)
         (map (without on.0) (machine_of image.old).records)) }
 {
@@ -385,7 +383,7 @@ fn drop_all(image: &mut [u64], on: Item)
 }
 
 // delete past numbers 1 to 3: 4, 5, 7, 17.
-fn drop_item(image: &mut [u64], by: Item, on: Item) -> Result<(), Refusal>
+fn drop_item(image: &mut [u64; Tickets::WORDS], by: Item, on: Item) -> Result<(), Refusal>
     requires { Ready image.old by.0 on.0 0 }
     ensures { Judged image.old (Delete by.0 on.0) (number_of result) image.new }
 {
@@ -410,6 +408,9 @@ fn drop_item(image: &mut [u64], by: Item, on: Item) -> Result<(), Refusal>
 pub fn create(image: &mut [u64], by: u32, on: u32) -> Result<(), Refusal>
     ensures { Ran image.old (Create by on) result image.new }
 {
+    let Some(image) = image.as_mut_array() else {
+        return Err(Refusal::WrongLength);
+    };
     let q = admit::check(order(image), by, on, 0)?;
     make(image, q.who, q.on)
 }
@@ -418,6 +419,9 @@ pub fn create(image: &mut [u64], by: u32, on: u32) -> Result<(), Refusal>
 pub fn generate(image: &mut [u64], by: u32, on: u32, right: u32) -> Result<u32, Refusal>
     ensures { Generates image.old (Generate by on right) result image.new }
 {
+    let Some(image) = image.as_mut_array() else {
+        return Err(Refusal::WrongLength);
+    };
     let q = admit::check(order(image), by, on, right)?;
     give(image, q.who, q.on, q.right)
 }
@@ -426,6 +430,9 @@ pub fn generate(image: &mut [u64], by: u32, on: u32, right: u32) -> Result<u32, 
 pub fn pass(image: &mut [u64], by: u32, to: u32, number: u32) -> Result<(), Refusal>
     ensures { Ran image.old (Pass by to number) result image.new }
 {
+    let Some(image) = image.as_mut_array() else {
+        return Err(Refusal::WrongLength);
+    };
     let q = admit::check(order(image), by, to, 0)?;
     add_holder(image, q.who, q.on, number)
 }
@@ -434,6 +441,9 @@ pub fn pass(image: &mut [u64], by: u32, to: u32, number: u32) -> Result<(), Refu
 pub fn remove(image: &mut [u64], by: u32, number: u32) -> Result<(), Refusal>
     ensures { Ran image.old (Remove by number) result image.new }
 {
+    let Some(image) = image.as_mut_array() else {
+        return Err(Refusal::WrongLength);
+    };
     let q = admit::check(order(image), by, 0, 0)?;
     end_ticket(image, q.who, number)
 }
@@ -442,6 +452,9 @@ pub fn remove(image: &mut [u64], by: u32, number: u32) -> Result<(), Refusal>
 pub fn delete(image: &mut [u64], by: u32, on: u32) -> Result<(), Refusal>
     ensures { Ran image.old (Delete by on) result image.new }
 {
+    let Some(image) = image.as_mut_array() else {
+        return Err(Refusal::WrongLength);
+    };
     let q = admit::check(order(image), by, on, 0)?;
     drop_item(image, q.who, q.on)
 }
@@ -450,6 +463,9 @@ pub fn delete(image: &mut [u64], by: u32, on: u32) -> Result<(), Refusal>
 pub fn check(image: &[u64], who: u32, on: u32, right: u32) -> Result<bool, Refusal>
     ensures { Checks image.now who on right result image.now }
 {
+    let Some(image) = image.as_array() else {
+        return Err(Refusal::WrongLength);
+    };
     let q = admit::check(order(image), who, on, right)?;
     Ok(is_holder(image, q.who, q.on, q.right))
 }
@@ -458,5 +474,8 @@ pub fn check(image: &[u64], who: u32, on: u32, right: u32) -> Result<bool, Refus
 pub fn inspect(image: &[u64]) -> Result<(), Refusal>
     ensures { Inspects image.now result image.now }
 {
+    let Some(image) = image.as_array() else {
+        return Err(Refusal::WrongLength);
+    };
     order(image)
 }

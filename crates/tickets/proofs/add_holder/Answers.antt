@@ -36,7 +36,7 @@ returns-in_default c =
     let e : lives m c.args.by.0 ≡ true = sym c.is_live.ensures ∙ c.if-not-is_live.false in
     let f : lives m c.args.to.0 ≡ true = sym c.is_live-2.ensures ∙ c.if-not-is_live-2.false in
     let v : Ready c.args.image.now c.args.by.0 c.args.to.0 0 = search rules in
-    let g : holds_number m c.args.by.0 c.args.number ≡ false = missing c.args.image.now v.size v.order c.args.number (place_of (is_number c.args.number) (machine_of c.args.image.now).records) refl c.in_default.ensures (λ t. bit t.holders c.args.by.0) in
+    let g : holds_number m c.args.by.0 c.args.number ≡ false = missing c.args.image.now c.told-image v.order c.args.number (place_of (is_number c.args.number) (machine_of c.args.image.now).records) refl c.in_default.ensures (λ t. bit t.holders c.args.by.0) in
     stops c.args.image.now (Pass c.args.by.0 c.args.to.0 c.args.number) 17 (rw (e, f, g)) (λ z. omega arith)
 
 pub returns-then-not-has : goal.returns-then-not-has
@@ -45,7 +45,7 @@ returns-then-not-has c =
     let e : lives m c.args.by.0 ≡ true = sym c.is_live.ensures ∙ c.if-not-is_live.false in
     let f : lives m c.args.to.0 ≡ true = sym c.is_live-2.ensures ∙ c.if-not-is_live-2.false in
     let v : Ready c.args.image.now c.args.by.0 c.args.to.0 0 = search rules in
-    let g : holds_number m c.args.by.0 c.args.number ≡ false = found c.args.image.now v.size v.order c.args.number c.in-Some.place c.in-Some.ensures.1 c.in-Some.ensures.0 (λ t. bit t.holders c.args.by.0)
+    let g : holds_number m c.args.by.0 c.args.number ≡ false = found c.args.image.now c.told-image v.order c.args.number c.in-Some.place c.in-Some.ensures.1 c.in-Some.ensures.0 (λ t. bit t.holders c.args.by.0)
     ∙ sym (of_item (bit (ticket_at c.args.image.now c.in-Some.place).holders) c.has.result _ _
     (c.has.ensures ∙ ap (λ x. bit x (c.number.result % 64)) c.holders_at-h.ensures.0) c.number.ensures v.by-item)
     ∙ c.if-not-has.true in
@@ -57,7 +57,7 @@ returns c =
     let e : lives m c.args.by.0 ≡ true = sym c.is_live.ensures ∙ c.if-not-is_live.false in
     let f : lives m c.args.to.0 ≡ true = sym c.is_live-2.ensures ∙ c.if-not-is_live-2.false in
     let v : Ready c.args.image.now c.args.by.0 c.args.to.0 0 = search rules in
-    let g : holds_number m c.args.by.0 c.args.number ≡ true = found c.args.image.now v.size v.order c.args.number c.in-Some.place c.in-Some.ensures.1 c.in-Some.ensures.0 (λ t. bit t.holders c.args.by.0)
+    let g : holds_number m c.args.by.0 c.args.number ≡ true = found c.args.image.now c.told-image v.order c.args.number c.in-Some.place c.in-Some.ensures.1 c.in-Some.ensures.0 (λ t. bit t.holders c.args.by.0)
     ∙ sym (of_item (bit (ticket_at c.args.image.now c.in-Some.place).holders) c.has.result _ _
     (c.has.ensures ∙ ap (λ x. bit x (c.number.result % 64)) c.holders_at-h.ensures.0) c.number.ensures v.by-item)
     ∙ c.if-not-has.false in
@@ -65,4 +65,4 @@ returns c =
     let k : c.with.result ≡ with_bit (ticket_at c.args.image.now c.in-Some.place).holders c.args.to.0 = of_item (with_bit (ticket_at c.args.image.now c.in-Some.place).holders) c.with.result _ _
     (c.with.ensures ∙ ap (λ x. with_bit x (c.number-2.result % 64)) c.holders_at-h.ensures.0) c.number-2.ensures v.on-item in
     goes c.args.image.now c.put_record.new.image (Pass c.args.by.0 c.args.to.0 c.args.number) (rw (e, f, g))
-    (c.put_record.ensures ∙ changed-words c.args.image.now v.size v.order c.args.number c.in-Some.place c.in-Some.ensures.1 c.in-Some.ensures.0 (with_holder c.args.to.0) _ _ w k)
+    (c.put_record.ensures ∙ changed-words c.args.image.now c.told-image v.order c.args.number c.in-Some.place c.in-Some.ensures.1 c.in-Some.ensures.0 (with_holder c.args.to.0) _ _ w k)

@@ -1,24 +1,29 @@
--- What numbers 1 to 3 admit decides (`admitted`): a refusal has its number and changes nothing (`refused_ran`); past them the table's
--- answer is the command's (`ran`).
-use mathlib.Core.Path.{refl, sym, subst}
+-- A buffer of a wrong length is refused by number 1 (`order-length`). In any other, what numbers 1 to 3 admit decides (`admitted`): a
+-- refusal has its number and changes nothing (`refused_ran`); past them the table's answer is the command's (`ran`).
+use mathlib.Core.Path.{refl}
 use Rattle.model.proofs.Answers.{passed-on}
-use Rattle.std.specs.Prelude.{Ok}
+use Rattle.std.specs.Prelude.{Ok, Err}
+use Rattle.model.specs.declared.Refusal.TheVariants as is
 use Rattle.ticketing.specs.declared.TicketCommand.TheVariants.{Delete}
-use Rattle.ticketing.specs.Unit.{Ran}
-use Rattle.tickets.proofs.Admission.{admitted, refused_ran, ran}
+use Rattle.tickets.proofs.Admission.{order-length, admitted, refused_ran, ran}
 use Rattle.tickets.proofs.delete.Goals as goal
+
+pub returns-in_default : goal.returns-in_default
+returns-in_default c =
+    refused_ran c.args.image.now (Delete c.args.by c.args.on) c.args.by c.args.on 0 refl (Err is.WrongLength)
+    (order-length c.args.image.now c.in_default.ensures.cases) _ refl
 
 pub drop_item-requires : goal.drop_item-requires
 drop_item-requires c =
-    let m = admitted c.args.image.now (Delete c.args.by c.args.on) c.args.by c.args.on 0 refl c.order.result c.order.ensures (Ok _) c.in_ok-q.ensures in
+    let m = admitted c.in-Some.image.now (Delete c.args.by c.args.on) c.args.by c.args.on 0 refl c.order.result c.order.ensures (Ok _) c.in_ok-q.ensures in
     rw m.1 (rw m.1 at m.0)
 
 pub returns-in_err-q : goal.returns-in_err-q
 returns-in_err-q c =
-    subst (λ r. Ran c.args.image.now (Delete c.args.by c.args.on) r c.args.image.now) (sym (passed-on _ _ c.from_residual.ensures (λ y i. i)))
-    (refused_ran c.args.image.now (Delete c.args.by c.args.on) c.args.by c.args.on 0 refl c.order.result c.order.ensures _ c.in_err-q.ensures)
+    rw (← c.in-Some.ensures.cases.same, passed-on _ _ c.from_residual.ensures (λ y i. i))
+    (refused_ran c.in-Some.image.now (Delete c.args.by c.args.on) c.args.by c.args.on 0 refl c.order.result c.order.ensures _ c.in_err-q.ensures)
 
 pub returns : goal.returns
 returns c =
-    let m = admitted c.args.image.now (Delete c.args.by c.args.on) c.args.by c.args.on 0 refl c.order.result c.order.ensures (Ok _) c.in_ok-q.ensures in
-    ran c.args.image.now (Delete c.args.by c.args.on) m.2 m.3 _ _ (rw m.1 at c.drop_item.ensures)
+    let m = admitted c.in-Some.image.now (Delete c.args.by c.args.on) c.args.by c.args.on 0 refl c.order.result c.order.ensures (Ok _) c.in_ok-q.ensures in
+    rw (← c.in-Some.ensures.cases.same) (ran c.in-Some.image.now (Delete c.args.by c.args.on) m.2 m.3 _ _ (rw m.1 at c.drop_item.ensures))

@@ -9,14 +9,14 @@ use Rattle.tickets.proofs.drop_all.Goals as goal
 
 pub loop-k-init : goal.loop-k-init
 loop-k-init c =
-    swept-start (without c.args.on.0) c.args.image.now (search rules)
+    swept-start (without c.args.on.0) c.args.image.now c.told-image
 
 pub loop-k-preserved : goal.loop-k-preserved
 loop-k-preserved c =
-    swept-next (without c.args.on.0) c.args.image.now (search rules) _ c.loop-k.k (search rules) c.loop-k.invariant _ c.drop_at.ensures
+    swept-next (without c.args.on.0) c.args.image.now c.told-image _ c.loop-k.k (search rules) c.loop-k.invariant _ c.drop_at.ensures
 
 pub returns : goal.returns
 unfolding machine_of
 returns c =
     let e : c.loop-k.k ≡ 1024 = omega arith in
-    swept-end (without c.args.on.0) c.args.image.now (search rules) c.loop-k.image (rw e at c.loop-k.invariant)
+    swept-end (without c.args.on.0) c.args.image.now c.told-image c.loop-k.image (rw e at c.loop-k.invariant)

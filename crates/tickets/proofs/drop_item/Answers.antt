@@ -5,7 +5,7 @@ use mathlib.Core.Bool.{true, false}
 use Prim.Native.Nat.{ℕ}
 use native.Mathlib.Omega.{arith}
 use borrow.Author.Tests.{eq-eqb, ne_eqb}
-use lib.ListN.{get_or, length-set}
+use lib.ListN.{get_or}
 use lib.Dec.{eqb}
 use Rattle.bits.specs.Bits.{without_bit}
 use mathlib.Core.List.{map}
@@ -48,9 +48,6 @@ returns-then-not-is_holder c =
     let h : holds m c.args.by.0 c.args.on.0 0 ≡ false = ap (λ (r : ℕ). holds m c.args.by.0 c.args.on.0 r) (sym c.edit.ensures) ∙ sym c.is_holder.ensures ∙ c.if-not-is_holder.true in
     stops c.args.image.now (Delete c.args.by.0 c.args.on.0) 17 (rw (e, f, g, h)) (λ z. omega arith)
 
-pub shape_of-image : goal.shape_of-image
-shape_of-image c = c.drop_all.auto.image ∙ simp length-set
-
 pub returns : goal.returns
 unfolding machine_of
 returns c =
@@ -63,5 +60,5 @@ returns c =
     let l : c.without.result ≡ without_bit (get_or c.args.image.now 0 0) c.args.on.0 = of_item (without_bit (get_or c.args.image.now 0 0)) c.without.result _ _
     c.without.ensures c.number-2.ensures v.on-item in
     goes c.args.image.now c.drop_all.new.image (Delete c.args.by.0 c.args.on.0) (rw (e, f, g, h))
-    (c.drop_all.ensures ∙ live-swept c.args.image.now c.without.result (without c.args.on.0) v.size
+    (c.drop_all.ensures ∙ live-swept c.args.image.now c.without.result (without c.args.on.0) c.told-image
     ∙ ap (λ (l : ℕ). image_of (tickets l (machine_of c.args.image.now).next (map (without c.args.on.0) (machine_of c.args.image.now).records))) l)

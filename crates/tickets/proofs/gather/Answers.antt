@@ -24,15 +24,15 @@ loop-k-preserved c =
       | then-w-h-ne0 w ↦
           let r = live_code c.record_at-w.result c.holders_at-h.result _ _ w.if-w-h-ne0.true w.is_sound.ensures in
           rw (w.buffer-is, w.sound-is, w.count-is)
-          (scanned-live c.args.image.now c.requires c.loop-k.invariant c.loop-k-test.true (c.record_at-w.result % 4294967296) _
+          (scanned-live c.args.image.now c.told-image c.loop-k.invariant c.loop-k-test.true (c.record_at-w.result % 4294967296) _
           (r.0 ∙ same) (λ e z. r.1 e (c.holders_at-h.ensures.0 ∙ z))
           (ap (λ (x : ℕ). x % 4294967296) c.record_at-w.ensures.0) (search rules))
       | else-w-h-ne0 w ↦
           let z = both_zero c.record_at-w.result c.holders_at-h.result w.if-w-h-ne0.false in
           rw (w.buffer-is, w.sound-is, w.count-is)
-          (scanned-none c.args.image.now c.requires c.loop-k.invariant c.loop-k-test.true (sym same ∙ rw (z.0, z.1))
+          (scanned-none c.args.image.now c.told-image c.loop-k.invariant c.loop-k-test.true (sym same ∙ rw (z.0, z.1))
           (sym c.holders_at-h.ensures.0 ∙ z.1))
     ]
 
 pub returns : goal.returns
-returns c = rw c.then_some.ensures (scanned-end c.args.image.now c.requires c.loop-k.invariant (omega arith) (omega arith))
+returns c = rw c.then_some.ensures (scanned-end c.args.image.now c.told-image c.loop-k.invariant (omega arith) (omega arith))

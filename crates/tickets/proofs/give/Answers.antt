@@ -49,12 +49,12 @@ returns-in_err-place c =
 pub put_ticket-requires : goal.put_ticket-requires
 put_ticket-requires c =
     let v : Ready c.args.image.now c.args.by.0 c.args.on.0 c.args.right.0 = search rules in
-    room-left c.args.image.now v.size c.in_ok-place.ensures c.args.by.0 c.args.on.0 c.args.right.0 v
+    room-left c.args.image.now c.told-image c.in_ok-place.ensures c.args.by.0 c.args.on.0 c.args.right.0 v
 
 pub overflow_cast-number : goal.overflow_cast-number
 overflow_cast-number c =
     let v : Ready c.args.image.now c.args.by.0 c.args.on.0 c.args.right.0 = search rules in
-    let i = room-left c.args.image.now v.size c.in_ok-place.ensures c.args.by.0 c.args.on.0 c.args.right.0 v in
+    let i = room-left c.args.image.now c.told-image c.in_ok-place.ensures c.args.by.0 c.args.on.0 c.args.right.0 v in
     let l : get_or c.args.image.now 1 0 < 4294967296 = omega (arith, i.left) in
     search (rules, l)
 
@@ -66,7 +66,7 @@ returns c =
     let f : lives m c.args.on.0 ≡ true = sym c.is_live-2.ensures ∙ c.if-not-is_live-2.false in
     let h : holds m c.args.by.0 c.args.on.0 0 ≡ true = ap (λ (r : ℕ). holds m c.args.by.0 c.args.on.0 r) (sym c.edit.ensures) ∙ sym c.is_holder.ensures ∙ c.if-not-is_holder.false in
     let v : Ready c.args.image.now c.args.by.0 c.args.on.0 c.args.right.0 = search rules in
-    let t : table m (Generate c.args.by.0 c.args.on.0 c.args.right.0) ≡ 0 = rw (e, f, h) (room_code c.args.image.now v.size c.in_ok-place.ensures) in (
+    let t : table m (Generate c.args.by.0 c.args.on.0 c.args.right.0) ≡ 0 = rw (e, f, h) (room_code c.args.image.now c.told-image c.in_ok-place.ensures) in (
       goes c.args.image.now c.put_ticket.new.image (Generate c.args.by.0 c.args.on.0 c.args.right.0) t c.put_ticket.ensures,
       rw t (found_is 0 _ refl),
     )

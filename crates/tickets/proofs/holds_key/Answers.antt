@@ -7,4 +7,4 @@ use Rattle.tickets.proofs.holds_key.Goals as goal
 pub returns : goal.returns
 returns c =
     c.is_some.ensures
-    ∙ any_found c.args.image.now c.requires.0 (held_for c.args.who.0 c.args.key) c.place_where.ensures (λ k b p. search rules)
+    ∙ any_found c.args.image.now c.told-image (held_for c.args.who.0 c.args.key) c.place_where.ensures (λ k b p. search rules)

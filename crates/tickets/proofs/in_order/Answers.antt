@@ -1,5 +1,4 @@
 -- The clauses in their order.
-use borrow.Author.Rules.{rules}
 use mathlib.Core.Path.{◌≡◌, sym, ◌∙◌}
 use mathlib.Core.Bool.{true, false}
 use native.Mathlib.Omega.{arith}
@@ -23,7 +22,7 @@ returns-then-image-gt-LAST c =
     sym (rw (a, e))
 
 pub records_ok-requires : goal.records_ok-requires
-records_ok-requires c = (search rules, omega arith)
+records_ok-requires c = omega arith
 
 pub returns : goal.returns
 unfolding machine_of

@@ -4,7 +4,7 @@ use mathlib.Core.Path.{◌≡◌, sym, ◌∙◌, ap₂, subst}
 use mathlib.Core.Bool.{true, false}
 use Prim.Native.Nat.{ℕ}
 use native.Mathlib.Omega.{arith}
-use lib.ListN.{get_or, length-set}
+use lib.ListN.{get_or}
 use Rattle.bits.specs.Bits.{with_bit}
 use Rattle.model.specs.Answers.{number_of}
 use Rattle.ticketing.specs.declared.TicketCommand.TheVariants.{Create}
@@ -44,10 +44,7 @@ returns-in_err-place c =
 pub put_ticket-requires : goal.put_ticket-requires
 put_ticket-requires c =
     let v : Ready c.args.image.now c.args.by.0 c.args.on.0 0 = search rules in
-    rw c.edit.ensures (live-room c.args.image.now _ _ c.args.by.0 c.args.on.0 0 (room-left c.args.image.now v.size c.in_ok-place.ensures c.args.by.0 c.args.on.0 0 v))
-
-pub shape_of-image : goal.shape_of-image
-shape_of-image c = c.put_ticket.auto.image ∙ simp length-set
+    rw c.edit.ensures (live-room c.args.image.now _ _ c.args.by.0 c.args.on.0 0 c.told-image (room-left c.args.image.now c.told-image c.in_ok-place.ensures c.args.by.0 c.args.on.0 0 v))
 
 pub returns : goal.returns
 unfolding machine_of
@@ -58,6 +55,6 @@ returns c =
     let v : Ready c.args.image.now c.args.by.0 c.args.on.0 0 = search rules in
     let l : c.with.result ≡ with_bit (get_or c.args.image.now 0 0) c.args.on.0 = of_item (with_bit (get_or c.args.image.now 0 0)) c.with.result _ _
     c.with.ensures c.number.ensures v.on-item in
-    goes c.args.image.now c.put_ticket.new.image (Create c.args.by.0 c.args.on.0) (rw (e, f) (room_code c.args.image.now v.size c.in_ok-place.ensures))
-    (c.put_ticket.ensures ∙ live-issued c.args.image.now c.with.result c.args.by.0 c.args.on.0 _ v.size
+    goes c.args.image.now c.put_ticket.new.image (Create c.args.by.0 c.args.on.0) (rw (e, f) (room_code c.args.image.now c.told-image c.in_ok-place.ensures))
+    (c.put_ticket.ensures ∙ live-issued c.args.image.now c.with.result c.args.by.0 c.args.on.0 _ c.told-image
     ∙ ap₂ (λ (l r : ℕ). image_of (issue (machine_of c.args.image.now) l c.args.by.0 c.args.on.0 r)) l c.edit.ensures)

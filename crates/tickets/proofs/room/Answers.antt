@@ -5,10 +5,10 @@ use Rattle.tickets.proofs.Commands.{full_room, spent_room}
 use Rattle.tickets.proofs.room.Goals as goal
 
 pub returns-in_default : goal.returns-in_default
-returns-in_default c = full_room c.args.image.now c.requires is.TicketsFull refl c.in_default.ensures
+returns-in_default c = full_room c.args.image.now c.told-image is.TicketsFull refl c.in_default.ensures
 
 pub returns-then-image-eq-LAST : goal.returns-then-image-eq-LAST
-returns-then-image-eq-LAST c = spent_room c.args.image.now c.requires c.in-Some.ensures is.NumbersSpent refl c.if-image-eq-LAST.true
+returns-then-image-eq-LAST c = spent_room c.args.image.now c.told-image c.in-Some.ensures is.NumbersSpent refl c.if-image-eq-LAST.true
 
 pub returns : goal.returns
 returns c = (c.in-Some.ensures.0, c.in-Some.ensures.1, c.if-image-eq-LAST.false)
