@@ -45,11 +45,6 @@ module _ (ls : List ℕ) (q p i : ℕ) where
       go true e h = (eqb-true _ _ (fst (eqb (lender w) p) _ e), eqb-true _ _ (snd (eqb (lender w) p) _ e), refl)
       go false e h = absurd (omega arith)
 
--- a flag as a number
-pub no_flag : (b : Bool) (n : ℕ) → n ≡ cond b 1 0 → eqb n 0 ≡ not b
-no_flag true n e = ap (λ (k : ℕ). eqb k 0) e
-no_flag false n e = ap (λ (k : ℕ). eqb k 0) e
-
 -- a test of all, place by place
 below-first : (n : ℕ) (f : ℕ → Bool) → all_below (suc n) f ≡ f 0 && all_below n (λ (j : ℕ). f (suc j))
 unfolding all_below
@@ -68,15 +63,14 @@ all-below p (x ∷ xs) = ap (λ b. p x && b) (all-below p xs) ∙ sym (below-fir
 pub arrive_other : (v w q : ℕ) → is_to_other q w ≡ true → arrive v w q ≡ 0
 arrive_other v w q t = arrive_else v w q (λ e. false≢true (sym (ap not (eq-eqb (borrower w) q e)) ∙ t))
 
--- the 16 before place i, which are all to others by their test r
-pub others_before : (ls : List ℕ) (q i n r : ℕ) → 16 ≤ i → i ≤ length ls
-    → eqb r 0 ≡ all_below (length (drop (i - 16) (take i ls))) (λ (j : ℕ). is_to_other q (get_or (drop (i - 16) (take i ls)) j 0))
-    → r ≡ 0 → ToOthers ls q i n → ToOthers ls q (i - 16) n
-others_before ls q i n r h inside e z others j l k =
+-- the 16 before place i, which are all to others
+pub others_before : (ls : List ℕ) (q i n : ℕ) → 16 ≤ i → i ≤ length ls → all (is_to_other q) (drop (i - 16) (take i ls)) ≡ true
+    → ToOthers ls q i n → ToOthers ls q (i - 16) n
+others_before ls q i n h inside e others j l k =
     by_cases (dec_lt j i)
     (λ d. let part : List ℕ = drop (i - 16) (take i ls) in
     let m : length part ≡ 16 = length-drop (i - 16) (take i ls) ∙ omega (arith, length-take-le i ls inside) in
-    let t = below_elim (length part) (λ (j : ℕ). is_to_other q (get_or part j 0)) (sym e ∙ eq-eqb r 0 z) (j - (i - 16)) (omega arith) in
+    let t = below_elim (length part) (λ (j : ℕ). is_to_other q (get_or part j 0)) (sym (all-below (is_to_other q) part) ∙ e) (j - (i - 16)) (omega arith) in
     let o : i - 16 + (j - (i - 16)) ≡ j = omega arith in
     let p : get_or part (j - (i - 16)) 0 ≡ get_or ls j 0
     = get_or-drop (i - 16) (take i ls) (j - (i - 16)) 0 ∙ ap (λ (n : ℕ). get_or (take i ls) n 0) o ∙ get_or-take i ls j 0 d in
