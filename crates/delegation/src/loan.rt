@@ -2,11 +2,12 @@
 // image, shift * 2^16 + count. Each field is cut to its width: none depends on the bits above it.
 ghost use Rattle.std.specs.Prelude.{◌≡◌, ◌*◌, ◌%◌};
 ghost use Rattle.model.specs.Journal.{loan, carries};
-ghost use Rattle.delegation.specs.Loans.{word_of, cut, last_shift, lender, loan_item, loan_right, borrower, loan_depth, key_of, key_for, header_of, header_word, recounted, moved_to, fresh_header};
+ghost use Rattle.delegation.specs.Loans.{word_of, cut, last_shift, lender, loan_item, loan_right, borrower, loan_depth, key_of, key_for, header_of, header_in, header_word, recounted, moved_to, fresh_header};
 
 use model::{Depth, Item, Right, Shift};
 
-// Word 0 of a loans image, its upper and its lower half: the present shift, and how many loans stand.
+// Word 0 of a loans image, its upper and its lower half: the present shift, and how many loans stand. `read` and `word` are the names that
+// callers have; a `From` beside them would say the same twice.
 #[derive(Clone, Copy)]
 pub struct Header {
     pub shift: u16,
@@ -28,6 +29,13 @@ impl Header {
             shift: (word / 65536) as u16,
             count: (word % 65536) as u16,
         }
+    }
+
+    // Of an image; a slice of no words has that of a fresh one.
+    pub fn of(loans: &[u32]) -> Header
+        ensures { result ≡ header_in loans.now }
+    {
+        Header::read(loans.first().copied().unwrap_or(0))
     }
 
     pub fn word(self) -> u32

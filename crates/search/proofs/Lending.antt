@@ -2,22 +2,24 @@
 -- the deepest of its loans (`passed-next`), so a person's next entry is known without the rest of the round.
 use mathlib.Core.Path.{◌≡◌, refl, sym, ap, ◌∙◌}
 use mathlib.Core.Bool.{Bool, true, false, not, ◌&&◌, cond, and-false, and_assoc, and_comm, false≢true}
-use mathlib.Core.List.{List, [], ◌∷◌}
+use mathlib.Core.List.{List, [], ◌∷◌, ◌++◌}
 use mathlib.Core.Logic.{by_cases}
 use Prim.Native.Nat.{ℕ, zero, suc, ◌+◌, ◌-◌, ◌≤◌, ◌<◌, min, max}
 use native.Mathlib.Omega.{arith}
 use native.Mathlib.Decide.{dec_lt, ℕ_discrete}
 use borrow.Author.Tests.{eqb-true, eq-eqb, ne_eqb}
 use lib.Dec.{eqb}
-use lib.ListN.{length, get_or, set, take, drop, length-drop}
-use lib.Seq.{get_or-set_same, get_or-set_other, get_or-take, get_or-drop, length-take-le}
+use lib.ListN.{length, get_or, set, take, drop, length-append, take-append-drop}
+use Rattle.std.specs.List.{IsLastAndRest}
+use Rattle.std.proofs.Math.Seq.{take-append_seam, get_or-append_seam, get_or-append_right}
+use lib.Seq.{get_or-set_same, get_or-set_other, get_or-take, take-append-le, length-take-le}
 use Rattle.bits.specs.Sets.{all, all_below, most, first_at}
 use Rattle.delegation.specs.Loans.{lender, borrower, loan_depth}
 use Rattle.delegation.specs.Search.{arrive, arriving, next_round, round_at, lender_to}
 use Rattle.delegation.proofs.Search.{arrive_here, arrive_else}
 use Rattle.bits.proofs.Sets.{fst, snd}
 use Rattle.bits.proofs.Indexed.{get_d_tabulate, most_above, first-most, below_elim, below_none}
-use Rattle.search.specs.Lending.{lending, lent_to, passed_on, is_to_other, ToOthers}
+use Rattle.search.specs.Lending.{lending, lent_to, passed_on, is_to_other, ToOthers, First, LeftTo}
 use Rattle.search.proofs.Rounds.{most_more, most_le, round_more}
 use Rattle.search.proofs.Settling.{unchanged}
 use Rattle.search.proofs.Trace.{lender_skip}
@@ -45,11 +47,6 @@ module _ (ls : List ℕ) (q p i : ℕ) where
       go true e h = (eqb-true _ _ (fst (eqb (lender w) p) _ e), eqb-true _ _ (snd (eqb (lender w) p) _ e), refl)
       go false e h = absurd (omega arith)
 
--- a flag as a number
-pub no_flag : (b : Bool) (n : ℕ) → n ≡ cond b 1 0 → eqb n 0 ≡ not b
-no_flag true n e = ap (λ (k : ℕ). eqb k 0) e
-no_flag false n e = ap (λ (k : ℕ). eqb k 0) e
-
 -- a test of all, place by place
 below-first : (n : ℕ) (f : ℕ → Bool) → all_below (suc n) f ≡ f 0 && all_below n (λ (j : ℕ). f (suc j))
 unfolding all_below
@@ -68,54 +65,72 @@ all-below p (x ∷ xs) = ap (λ b. p x && b) (all-below p xs) ∙ sym (below-fir
 pub arrive_other : (v w q : ℕ) → is_to_other q w ≡ true → arrive v w q ≡ 0
 arrive_other v w q t = arrive_else v w q (λ e. false≢true (sym (ap not (eq-eqb (borrower w) q e)) ∙ t))
 
--- the 16 before place i, which are all to others by their test r
-pub others_before : (ls : List ℕ) (q i n r : ℕ) → 16 ≤ i → i ≤ length ls
-    → eqb r 0 ≡ all_below (length (drop (i - 16) (take i ls))) (λ (j : ℕ). is_to_other q (get_or (drop (i - 16) (take i ls)) j 0))
-    → r ≡ 0 → ToOthers ls q i n → ToOthers ls q (i - 16) n
-others_before ls q i n r h inside e z others j l k =
-    by_cases (dec_lt j i)
-    (λ d. let part : List ℕ = drop (i - 16) (take i ls) in
-    let m : length part ≡ 16 = length-drop (i - 16) (take i ls) ∙ omega (arith, length-take-le i ls inside) in
-    let t = below_elim (length part) (λ (j : ℕ). is_to_other q (get_or part j 0)) (sym e ∙ eq-eqb r 0 z) (j - (i - 16)) (omega arith) in
-    let o : i - 16 + (j - (i - 16)) ≡ j = omega arith in
-    let p : get_or part (j - (i - 16)) 0 ≡ get_or ls j 0
-    = get_or-drop (i - 16) (take i ls) (j - (i - 16)) 0 ∙ ap (λ (n : ℕ). get_or (take i ls) n 0) o ∙ get_or-take i ls j 0 d in
-    ap (is_to_other q) (sym p) ∙ t)
-    (λ d. others j (omega arith) k)
+-- ---- the first of the loans
+module _ (ls xs : List ℕ) (first : First ls xs) where
+  pub first_at_place : (j : ℕ) → j < length xs → get_or xs j 0 ≡ get_or ls j 0
+  first_at_place j h = ap (λ (l : List ℕ). get_or l j 0) first.1 ∙ get_or-take (length xs) ls j 0 h
 
--- one more
-pub other_before : (ls : List ℕ) (q i n : ℕ) → 0 < i → is_to_other q (get_or ls (i - 1) 0) ≡ true → ToOthers ls q i n → ToOthers ls q (i - 1) n
-other_before ls q i n h e others j l k =
-    by_cases (dec_lt j i)
-    (λ d. let o : j ≡ i - 1 = omega arith in ap (λ (m : ℕ). is_to_other q (get_or ls m 0)) o ∙ e)
-    (λ d. others j (omega arith) k)
+  pub first_first : (ys : List ℕ) → First xs ys → First ls ys
+  first_first ys f = (
+    omega arith,
+    f.1 ∙ ap (take (length ys)) first.1 ∙ sym (take-append-le (length ys) (take (length xs) ls) (drop (length xs) ls)
+        (omega (arith, length-take-le (length xs) ls first.0))) ∙ ap (take (length ys)) (take-append-drop (length xs) ls),
+  )
 
--- what is so of the first n loans
-pub others_in : (ls : List ℕ) (q n r : ℕ) → n ≤ length ls → r ≤ length (take n ls) → ToOthers (take n ls) q r (length (take n ls))
-    → (r ≤ n) × ToOthers ls q r n
-others_in ls q n r h b others =
-    let m = length-take-le n ls h in
-    (omega arith, λ j l k. ap (is_to_other q) (sym (get_or-take n ls j 0 k)) ∙ others j l (omega arith))
+pub first_front : (xs front block : List ℕ) → xs ≡ front ++ block → First xs front
+first_front xs front block e = rw e (simp length-append (omega arith), sym (take-append_seam front block))
+
+-- the loan that the first of the loans end with
+pub first_end : (ls xs front : List ℕ) (w : ℕ) → First ls xs → xs ≡ front ++ (w ∷ []) → length front + 1 ≡ length xs → w ≡ get_or ls (length front) 0
+first_end ls xs front w f e n =
+    sym (get_or-append_seam front w [] 0) ∙ ap (λ (l : List ℕ). get_or l (length front) 0) (sym e)
+    ∙ first_at_place ls xs f (length front) (omega arith)
+
+-- without some at the end, which are all to others
+pub left_less : (ls : List ℕ) (q : ℕ) (xs front block : List ℕ) → LeftTo ls q xs → xs ≡ front ++ block → all (is_to_other q) block ≡ true
+    → LeftTo ls q front
+left_less ls q xs front block left e others =
+    let n : length xs ≡ length front + length block = ap length e ∙ length-append front block in (
+      first_first ls xs left.0 front (first_front xs front block e),
+      λ j l k.
+          by_cases (dec_lt j (length xs))
+          (λ d. let t = below_elim (length block) _ (sym (all-below (is_to_other q) block) ∙ others) (j - length front) (omega arith) in
+          let p = sym (first_at_place ls xs left.0 j d) ∙ ap (λ (x : List ℕ). get_or x j 0) e ∙ get_or-append_right front block j 0 l in
+          ap (is_to_other q) p ∙ t)
+          (λ d. left.1 j (omega arith) k),
+    )
+
+-- where ys are left of the first of the loans: the front of ys, the loan they end with, and the others behind it
+pub left_end : (ls : List ℕ) (q : ℕ) (xs ys front : List ℕ) (w : ℕ) → First ls xs → LeftTo xs q ys → IsLastAndRest ys w front
+    → First ls front × (w ≡ get_or ls (length front) 0) × (length front + 1 ≤ length xs) × ToOthers ls q (length front + 1) (length xs)
+left_end ls q xs ys front w f left e =
+    let first = first_first ls xs f ys left.0 in (
+      first_first ls ys first front (first_front ys front (w ∷ []) e.0),
+      first_end ls ys front w first e.0 e.1,
+      omega (arith, e.1),
+      λ j l k. ap (is_to_other q) (sym (first_at_place ls xs f j k)) ∙ left.1 j (omega arith) k,
+    )
+
+-- where nothing is left of them, all are to others
+pub left_none : (ls : List ℕ) (q : ℕ) (xs ys : List ℕ) → First ls xs → LeftTo xs q ys → length ys ≡ 0 → ToOthers ls q 0 (length xs)
+left_none ls q xs ys f left e j l k = ap (is_to_other q) (sym (first_at_place ls xs f j k)) ∙ left.1 j (omega arith) k
 
 -- ---- laying out: one loan more, and loans to others
 module _ (ls : List ℕ) (q p : ℕ) where
-  -- with a row that has what is lent from place i on, and the loan before it laid out too
-  pub lent-step : (row : List ℕ) (i : ℕ) → 0 < i → length row ≡ 64 → p < 64
-      → max (get_or (set row (lender (get_or ls (i - 1) 0)) (max (get_or row (lender (get_or ls (i - 1) 0)) 0)
-      (cond (eqb (borrower (get_or ls (i - 1) 0)) q) (loan_depth (get_or ls (i - 1) 0) + 1) 0))) p 0) (most (lending ls q p) (i - 1))
-      ≡ max (get_or row p 0) (most (lending ls q p) i)
-  lent-step row i h long hp =
-      let u : ℕ = get_or ls (i - 1) 0 in
+  -- with a row that has what is lent from behind place i on, and the loan u there laid out too
+  pub lent-step : (row : List ℕ) (i u : ℕ) → u ≡ get_or ls i 0 → length row ≡ 64 → p < 64
+      → max (get_or (set row (lender u) (max (get_or row (lender u) 0) (cond (eqb (borrower u) q) (loan_depth u + 1) 0))) p 0)
+      (most (lending ls q p) i)
+      ≡ max (get_or row p 0) (most (lending ls q p) (i + 1))
+  lent-step row i u here long hp =
       let x : ℕ = cond (eqb (borrower u) q) (loan_depth u + 1) 0 in
-      let e : i - 1 + 1 ≡ i = omega arith in
-      let m : most (lending ls q p) i ≡ max (most (lending ls q p) (i - 1)) (lending ls q p (i - 1))
-      = ap (most (lending ls q p)) (sym e) ∙ most_more (lending ls q p) (i - 1) in
+      let m = most_more (lending ls q p) i in
       by_cases (ℕ_discrete (lender u) p)
-      (λ d. let a : lending ls q p (i - 1) ≡ x = rw (eq-eqb _ _ d) in
+      (λ d. let a : lending ls q p i ≡ x = rw (sym here) (rw (eq-eqb _ _ d)) in
       let s : get_or (set row (lender u) (max (get_or row (lender u) 0) x)) p 0 ≡ max (get_or row p 0) x =
       (λ j. get_or (set row (d j) (max (get_or row (d j) 0) x)) p 0) ∙ get_or-set_same row p _ 0 (omega arith) in
       omega arith)
-      (λ d. let a : lending ls q p (i - 1) ≡ 0 = rw (ne_eqb _ _ d) in
+      (λ d. let a : lending ls q p i ≡ 0 = rw (sym here) (rw (ne_eqb _ _ d)) in
       let s : get_or (set row (lender u) (max (get_or row (lender u) 0) x)) p 0 ≡ get_or row p 0 = get_or-set_other row (lender u) p _ 0 (λ z. d (sym z)) in
       omega arith)
 
@@ -175,6 +190,6 @@ module _ (ls round : List ℕ) (q : ℕ) (inside : q < 64) where
 -- a person's entry of the round after round k
 pub next_entry : (first ls row round : List ℕ) (k q e : ℕ) → q < 64 → row ≡ lent_to ls q → round ≡ round_at first ls k → e ≡ passed_on row round
     → e ≡ get_or (round_at first ls (k + 1)) q 0
-next_entry first ls row round k q e h r s p =
+next_entry first ls lent round k q e h r s p =
     p ∙ (λ j. passed_on (r j) (s j)) ∙ passed-next ls (round_at first ls k) q h
     ∙ ap (λ (x : List ℕ). get_or x q 0) (sym (round_more first ls k))

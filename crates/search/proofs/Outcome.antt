@@ -1,10 +1,8 @@
 -- From what the parts of the search say to what the search says.
 use mathlib.Core.Path.{◌≡◌, sym, ap, ◌∙◌, subst}
 use mathlib.Core.List.{List, ◌++◌}
-use Prim.Native.Nat.{ℕ, ◌+◌, ◌-◌, ◌≤◌}
+use Prim.Native.Nat.{ℕ, ◌-◌, ◌≤◌}
 use native.Mathlib.Omega.{arith}
-use borrow.Author.Tests.{ne_eqb}
-use Rattle.model.specs.Answers.{found_said}
 use lib.ListN.{replicate}
 use Rattle.bits.specs.Sets.{tabulate, most, first_at}
 use Rattle.delegation.specs.Search.{grant_round, round_at, column, traced, rounds_of, height_of, length_of, best_of, best_chain}

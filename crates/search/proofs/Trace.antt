@@ -1,9 +1,10 @@
 -- Laws of the loop that reads a chain off the rounds, and of the loop that finds a lender for it.
-use mathlib.Core.Path.{◌≡◌, refl, sym, ap, subst, ◌∙◌}
+use mathlib.Core.Path.{◌≡◌, refl, sym, ap, ◌∙◌}
 use mathlib.Core.Bool.{Bool, true, false, cond}
 use mathlib.Core.List.{List, [], ◌∷◌, ◌++◌, append_assoc}
 use Prim.Native.Nat.{ℕ, zero, suc, ◌+◌, ◌-◌, ◌≤◌, ◌<◌}
 use native.Mathlib.Omega.{arith}
+use native.Mathlib.Numerals.{add-one}
 use native.Mathlib.Nat.{add-zero, suc-sub-suc, sub-zero, zero-sub}
 use lib.Dec.{eqb}
 use borrow.Author.Tests.{eq-eqb, ne_eqb}
@@ -12,28 +13,26 @@ use lib.Seq.{get_or-set_same, drop-cons, drop-set-lt}
 use Rattle.delegation.specs.Loans.{lender}
 use Rattle.delegation.specs.Search.{arriving, column, lender_to, traced}
 
--- the last of the first i loans, which passes x on to q
-module _ (ls round : List ℕ) (q v i x : ℕ) (h : 0 < i) (got : x ≡ arriving ls round q (i - 1)) where
-  last : (i : ℕ) → 0 < i
-      → lender_to ls round q v i ≡ cond (eqb (arriving ls round q (i - 1)) v) (lender (get_or ls (i - 1) 0)) (lender_to ls round q v (i - 1))
+-- the last of the first i + 1 loans, which passes x on to q
+module _ (ls round : List ℕ) (q v i x : ℕ) (got : x ≡ arriving ls round q i) where
+  last : lender_to ls round q v (i + 1) ≡ cond (eqb (arriving ls round q i) v) (lender (get_or ls i 0)) (lender_to ls round q v i)
   unfolding lender_to
-  last zero h = absurd (omega arith)
-  last (suc i) h = let e : suc i - 1 ≡ i = omega arith in rw e
+  last = rw add-one refl
 
-  pub lender_here : x ≡ v → lender_to ls round q v i ≡ lender (get_or ls (i - 1) 0)
-  lender_here e = last i h ∙ rw (eq-eqb _ _ (sym got ∙ e))
+  pub lender_here : x ≡ v → lender_to ls round q v (i + 1) ≡ lender (get_or ls i 0)
+  lender_here e = last ∙ rw (eq-eqb _ _ (sym got ∙ e))
 
-  pub lender_else : (x ≡ v → ⊥) → lender_to ls round q v i ≡ lender_to ls round q v (i - 1)
-  lender_else ne = last i h ∙ rw (ne_eqb _ _ (λ e. ne (got ∙ e)))
+  pub lender_else : (x ≡ v → ⊥) → lender_to ls round q v (i + 1) ≡ lender_to ls round q v i
+  lender_else ne = last ∙ rw (ne_eqb _ _ (λ e. ne (got ∙ e)))
 
 -- loans that pass another number on
 pub lender_skip : (ls round : List ℕ) (q v i d : ℕ) → ((j : ℕ) → i ≤ j → j < i + d → arriving ls round q j ≡ v → ⊥)
     → lender_to ls round q v (i + d) ≡ lender_to ls round q v i
 lender_skip ls round q v i zero ne = ap (lender_to ls round q v) (add-zero i)
 lender_skip ls round q v i (suc d) ne =
-    let e : i + suc d - 1 ≡ i + d = omega arith in
-    lender_else ls round q v (i + suc d) _ (omega arith) refl (subst (λ (n : ℕ). arriving ls round q n ≡ v → ⊥) (sym e) (ne (i + d) (omega arith) (omega arith)))
-    ∙ ap (lender_to ls round q v) e ∙ lender_skip ls round q v i d (λ j h l. ne j h (omega arith))
+    let e : i + suc d ≡ i + d + 1 = omega arith in
+    ap (lender_to ls round q v) e ∙ lender_else ls round q v (i + d) _ refl (ne (i + d) (omega arith) (omega arith))
+    ∙ lender_skip ls round q v i d (λ j h l. ne j h (omega arith))
 
 pub lender_lt : (ls round : List ℕ) (q v n : ℕ) → lender_to ls round q v n < 64
 unfolding lender_to

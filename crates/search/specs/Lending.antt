@@ -1,5 +1,5 @@
 -- What one person is lent: the loans to that person laid out by lender, and what they pass on in a round.
-use Rattle.std.specs.Prelude.{◌≡◌, Bool, true, not, ◌&&◌, cond, List, ℕ, ◌+◌, ◌-◌, ◌≤◌, ◌<◌, min, eqb, length, get_or}
+use Rattle.std.specs.Prelude.{◌≡◌, Bool, true, not, ◌&&◌, cond, List, ℕ, ◌+◌, ◌-◌, ◌≤◌, ◌<◌, min, eqb, length, get_or, take}
 use Rattle.bits.specs.Sets.{tabulate, most}
 use Rattle.delegation.specs.Loans.{lender, borrower, loan_depth}
 
@@ -22,3 +22,11 @@ is_to_other q w = not (eqb (borrower w) q)
 -- the loans from place i on, up to place n, are to others than q
 abbrev pub ToOthers : List ℕ → ℕ → ℕ → ℕ → Type 0
 ToOthers ls q i n = (j : ℕ) → i ≤ j → j < n → is_to_other q (get_or ls j 0) ≡ true
+
+-- xs are the first of the loans ls
+abbrev pub First : List ℕ → List ℕ → Type 0
+First ls xs = (length xs ≤ length ls) × (xs ≡ take (length xs) ls)
+
+-- the same, and the others of ls are to others than q
+abbrev pub LeftTo : List ℕ → ℕ → List ℕ → Type 0
+LeftTo ls q xs = First ls xs × ToOthers ls q (length xs) (length ls)

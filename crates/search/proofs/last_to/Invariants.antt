@@ -1,8 +1,10 @@
--- The loans from place i on are to others than q: after the 16 at once, and after each more that is (`other_before`).
-use Prim.Native.Nat.{◌≤◌}
+-- The rest is left of the loans; where its last is to another, so is the front before that (`left_less`).
 use lib.ListN.{length}
-use Rattle.search.specs.Lending.{ToOthers}
+use Rattle.search.specs.Lending.{LeftTo}
 use Rattle.search.proofs.last_to.Given as goal
 
-abbrev pub invariant-loop-k : goal.invariant-loop-k
-invariant-loop-k l = (l.k ≤ length l.ls) × ToOthers l.ls l.q.0 l.k (length l.ls)
+abbrev pub invariant-loop-w : goal.invariant-loop-w
+invariant-loop-w l = LeftTo l.ls l.q.0 l.rest
+
+abbrev pub decreases-loop-w : goal.decreases-loop-w
+decreases-loop-w l = length l.rest

@@ -1,36 +1,50 @@
--- No loan from place i on passes v on to q: those that were passed over are to others (`lender-passed`), the one looked at passes another
+-- No loan behind the rest passes v on to q: those that were passed over are to others (`lender-passed`), the one looked at passes another
 -- number on (`lender_else`). A loan that does is the last one (`lender_here`); with none left the lender is item 0.
-use borrow.Author.Rules.{rules}
 use native.Mathlib.Omega.{arith}
-use mathlib.Core.Path.{◌≡◌, sym, ap, ◌∙◌}
-use Prim.Native.Nat.{◌-◌}
-use lib.ListN.{length}
-use lib.Seq.{length-take-le}
-use Rattle.delegation.specs.Search.{lender_to}
+use mathlib.Core.Path.{sym, ap, ◌∙◌}
+use Prim.Native.Nat.{ℕ, ◌+◌}
+use lib.ListN.{length, get_or}
+use Rattle.delegation.specs.Loans.{lender}
+use Rattle.delegation.specs.Search.{arrive, lender_to}
 use Rattle.search.proofs.Trace.{lender_here, lender_else}
-use Rattle.search.proofs.Lending.{lender-passed, others_in}
+use Rattle.search.proofs.Lending.{lender-passed, left_end, left_none}
 use Rattle.search.proofs.lender_to.Goals as goal
-
-pub loop-i-init : goal.loop-i-init
-loop-i-init c =
-    (search rules, lender-passed c.args.ls.now c.args.round.now c.args.q.0 c.args.v c.last_passing-i.result (length c.args.ls.now) c.last_passing-i.ensures.0 c.last_passing-i.ensures.1 c.last_passing-i.ensures.2)
 
 pub returns-then-arrive_of-v : goal.returns-then-arrive_of-v
 returns-then-arrive_of-v c =
-    c.lender.ensures ∙ sym (c.loop-i.invariant.1
-    ∙ lender_here c.args.ls.now c.args.round.now c.args.q.0 c.args.v c.loop-i.i c.arrive_of.result (omega arith) c.arrive_of.ensures (omega arith))
+    let ls = c.args.ls.now in
+    let n = length c.in-Some.front.now in
+    let left = c.last_passing.ensures in
+    let e = left_end ls c.args.q.0 c.loop-w.rest.now c.last_passing.result.now c.in-Some.front.now c.in-Some.w.now c.loop-w.invariant.0 left.0
+    c.in-Some.ensures.cases in
+    let got = c.arrive_of.ensures ∙ ap (λ (u : ℕ). arrive (get_or c.args.round.now (lender u) 0) u c.args.q.0) e.1 in
+    c.lender.ensures ∙ ap lender e.1
+    ∙ sym (c.loop-w.invariant.1
+    ∙ lender-passed ls c.args.round.now c.args.q.0 c.args.v (n + 1) (length c.loop-w.rest.now) e.2 e.3
+    (λ z. c.in-Some.ensures.cases.1 ∙ ap length (left.1 z))
+    ∙ lender_here ls c.args.round.now c.args.q.0 c.args.v n c.arrive_of.result got c.if-arrive_of-v.true)
 
-pub loop-i-preserved : goal.loop-i-preserved
-loop-i-preserved c =
-    let o = others_in c.args.ls.now c.args.q.0 (c.loop-i.i - 1) c.last_passing-i-in-loop-i.result (omega arith) c.last_passing-i-in-loop-i.ensures.0 c.last_passing-i-in-loop-i.ensures.1 in (
-      search rules,
-      c.loop-i.invariant.1 ∙ lender_else c.args.ls.now c.args.round.now c.args.q.0 c.args.v c.loop-i.i c.arrive_of.result (omega arith) c.arrive_of.ensures
-          (λ e. omega arith)
-          ∙ lender-passed c.args.ls.now c.args.round.now c.args.q.0 c.args.v c.last_passing-i-in-loop-i.result (c.loop-i.i - 1) o.0 o.1 (λ z. c.last_passing-i-in-loop-i.ensures.2 z ∙ length-take-le (c.loop-i.i - 1) c.args.ls.now (omega arith)),
+pub loop-w-preserved : goal.loop-w-preserved
+loop-w-preserved c =
+    let ls = c.args.ls.now in
+    let n = length c.in-Some.front.now in
+    let left = c.last_passing.ensures in
+    let e = left_end ls c.args.q.0 c.loop-w.rest.now c.last_passing.result.now c.in-Some.front.now c.in-Some.w.now c.loop-w.invariant.0 left.0
+    c.in-Some.ensures.cases in
+    let got = c.arrive_of.ensures ∙ ap (λ (u : ℕ). arrive (get_or c.args.round.now (lender u) 0) u c.args.q.0) e.1 in (
+      e.0,
+      c.loop-w.invariant.1
+          ∙ lender-passed ls c.args.round.now c.args.q.0 c.args.v (n + 1) (length c.loop-w.rest.now) e.2 e.3
+          (λ z. c.in-Some.ensures.cases.1 ∙ ap length (left.1 z))
+          ∙ lender_else ls c.args.round.now c.args.q.0 c.args.v n c.arrive_of.result got (λ z. omega arith),
     )
 
 pub returns : goal.returns
 unfolding lender_to
 returns c =
-    let e : c.loop-i.i ≡ 0 = omega arith in
-    c.root.ensures ∙ sym (c.loop-i.invariant.1 ∙ ap (lender_to c.args.ls.now c.args.round.now c.args.q.0 c.args.v) e)
+    let left = c.last_passing.ensures in
+    let e = left_none c.args.ls.now c.args.q.0 c.loop-w.rest.now c.last_passing.result.now c.loop-w.invariant.0 left.0
+    c.in_default.ensures.cases in
+    c.root.ensures ∙ sym (c.loop-w.invariant.1
+    ∙ lender-passed c.args.ls.now c.args.round.now c.args.q.0 c.args.v 0 (length c.loop-w.rest.now) (omega arith) e
+    (λ z. sym c.in_default.ensures.cases ∙ ap length (left.1 z)))

@@ -1,11 +1,10 @@
 -- An entry of 0 has no chain. Another is at most 8, so one below it is a depth (`depth_read`).
 use Rattle.std.proofs.Common.{rules}
-use Rattle.std.specs.Prelude.{◌≡◌, Option, Some, None, ℕ, ◌+◌, ◌-◌}
+use Rattle.std.specs.Prelude.{◌≡◌, Option, Some, None, ◌+◌, ◌-◌}
 use mathlib.Core.Path.{sym, ap, ◌∙◌}
 use native.Mathlib.Omega.{arith}
 use borrow.Author.Tests.{eq-eqb, ne_eqb}
 use Rattle.model.specs.Answers.{found_said}
-use Rattle.model.specs.declared.Depth.{Depth}
 use Rattle.model.specs.declared.BestChain.{BestChain}
 use Rattle.model.proofs.Commands.{depth_read}
 use Rattle.search.proofs.said.Goals as goal
