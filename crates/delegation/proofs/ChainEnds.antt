@@ -10,7 +10,7 @@ use Rattle.std.specs.Prelude.{Option, Result, Ok, Err, ⊤}
 use Rattle.model.specs.declared.Question.{Question}
 use Rattle.model.specs.declared.BestChain.{BestChain}
 use Rattle.model.specs.declared.Refusal.{Refusal}
-use Rattle.model.specs.Answers.{refusal_number, number_of, answered, refusal_for, Found, nothing, found_in, found_said}
+use Rattle.model.specs.Answers.{refusal_number, number_of, answer_with, refusal_for, Found, nothing, found_in, found_said}
 use Rattle.layouts.specs.Admission.{check_admission}
 use Rattle.layouts.specs.Layouts.{grant_cells}
 use Rattle.delegation.specs.Loans.{loan_words}
@@ -21,7 +21,7 @@ use Rattle.delegation.specs.ChainUnit.{chain_in_order, chain_sized, chain_guarde
 use Rattle.bits.proofs.Sets.{fst, snd}
 use Rattle.layouts.proofs.Guarding.{guard_passed, check_guard_known}
 use Rattle.layouts.proofs.Admission.{check_admitted}
-use Rattle.model.proofs.Answers.{refuses, refused_is, found_is, Known, answered_number, found_said_lem}
+use Rattle.model.proofs.Answers.{refuses, refused_is, found_is, Known, known_number, found_said_lem}
 
 -- images that may be read
 pub chain_readable : (s : Images) (room : Bool) → chain_guarded s room 0 ≡ 0
@@ -71,8 +71,8 @@ unfolding found_of
 found_none gs t key who = best_none (grants_of gs key) (picked t key) who
 
 chain_found_lem : (s : Images) (buffer : List ℕ) (p o r : ℕ)
-    → found_in (answered (chain_check_number s buffer p o r) (found_said (chain_found s buffer p o r))) ≡ chain_found s buffer p o r
-unfolding answered
+    → found_in (answer_with (chain_check_number s buffer p o r) (found_said (chain_found s buffer p o r))) ≡ chain_found s buffer p o r
+unfolding answer_with
 chain_found_lem s buffer p o r =
     go (eqb (chain_check_number s buffer p o r) 0) (found_of s.grants s.loans (8 * o + r) p)
     (found_none s.grants s.loans (8 * o + r) p)
@@ -84,10 +84,10 @@ chain_found_lem s buffer p o r =
 
 -- what a check's answer tells: its number, and what was found
 pub chain-told : (s : Images) (buffer : List ℕ) (p o r : ℕ) (a : Result (Option BestChain) Refusal)
-    → a ≡ answered (chain_check_number s buffer p o r) (found_said (chain_found s buffer p o r))
+    → a ≡ answer_with (chain_check_number s buffer p o r) (found_said (chain_found s buffer p o r))
     → (number_of a ≡ chain_check_number s buffer p o r) × (found_in a ≡ chain_found s buffer p o r)
 chain-told s buffer p o r a e = (
-  ap number_of e ∙ answered_number _ (found_said (chain_found s buffer p o r)) (chain_check_known s buffer p o r),
+  ap number_of e ∙ known_number _ (found_said (chain_found s buffer p o r)) (chain_check_known s buffer p o r),
   ap found_in e
       ∙ chain_found_lem s buffer p o r,
 )

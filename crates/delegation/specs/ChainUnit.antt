@@ -9,7 +9,7 @@ use Rattle.model.specs.declared.BestChain.{BestChain}
 use Rattle.bits.specs.Sets.{any, all, count}
 use Rattle.layouts.specs.Machine.{Machine, guarded_by}
 use Rattle.model.specs.Commands.{sweeps, members_of, most_loans}
-use Rattle.model.specs.Answers.{Found, asked, Numbered, answered, found_said, nothing, ◌when◌else◌}
+use Rattle.model.specs.Answers.{Found, asked, Numbered, answer_with, found_said, nothing, ◌when◌else◌}
 use Rattle.model.specs.Journal.{Grant, Loan, grant, of_each_depth, is_past, loan_in}
 use Rattle.layouts.specs.Layouts.{grant_bytes, grant_cells, live_in, held, is_in_order, created, deleted, allowed, allowed_set, dropped, fresh_image}
 use Rattle.delegation.specs.Loans.{word_of, word_names, word_from, word_dated, word_past, loan_words, count_of, shift_in, used, loans_image, loans_with, loans_kept, loans_at, fresh_header, loans_in_order}
@@ -130,7 +130,7 @@ chain_left s buffer p o r = s
 -- answer a, buffer b and images x of a check: its contract
 abbrev pub ChainChecks : Images → List ℕ → ℕ → ℕ → ℕ → Result (Option BestChain) Refusal → List ℕ → Images → Type 0
 ChainChecks s buffer p o r a b x =
-    (a ≡ answered (chain_check_number s buffer p o r) (found_said (chain_found s buffer p o r))) × (b ≡ chain_buffer s buffer p o r)
+    (a ≡ answer_with (chain_check_number s buffer p o r) (found_said (chain_found s buffer p o r))) × (b ≡ chain_buffer s buffer p o r)
     × (x ≡ chain_left s buffer p o r)
 
 -- from images s to images x nobody goes from no to yes, and nobody's depth rises: whatever is asked, with whatever chain buffer

@@ -15,8 +15,8 @@ use Rattle.model.specs.declared.Question.{Question}
 use Rattle.model.specs.declared.Refusal.{Refusal}
 use Rattle.model.specs.declared.Refusal.TheVariants as is
 use Rattle.model.specs.Commands.{arguments_of, typed_of, raw_of, fits, items, right_depth, asking, Ranged}
-use Rattle.model.specs.Answers.{asked, table, refusal_number, number_of, answered, Returns, ◌when◌else◌}
-use Rattle.model.proofs.Answers.{refuses, refused, refused_is, found_is, numbered, answered_number, table-known}
+use Rattle.model.specs.Answers.{asked, table, refusal_number, number_of, answer_with, Returns, ◌when◌else◌}
+use Rattle.model.proofs.Answers.{refuses, refused, refused_is, found_is, numbered, known_number, table-known}
 use Rattle.model.proofs.Commands.{ranged_command}
 use Rattle.layouts.specs.Machine.{Machine, guarded_by, answer_of, judged_in, Judged, Ran, RanCounting}
 use Rattle.layouts.specs.Admission.{admission, command_admission, check_admission}
@@ -68,8 +68,8 @@ module _ {S : Type 0} (M : Machine S) (s : S) (c : Command) where
     k.1,
     λ r x j.
         let b = judged_in M s (raw_of t) in
-        let n = answered_number b.number b.count (table-known (M.facts s (raw_of t)) (raw_of t)) in
-        let q = k.2 (answered b.number b.count) x ((n, refl), j.1) in
+        let n = known_number b.number b.count (table-known (M.facts s (raw_of t)) (raw_of t)) in
+        let q = k.2 (answer_with b.number b.count) x ((n, refl), j.1) in
         (numbered r _ (j.0 ∙ sym n ∙ q.0.0), q.1),
   )
 
@@ -104,4 +104,4 @@ module _ (L : Layout) (s : List ℕ) (p o r : ℕ) (order : Result ⊤ Refusal) 
     ready = check_admitted (eqb (length s) L.cells) (is_in_order L s) p o r order e (Ok q) h
 
     pub check_says : (a : Result Bool Refusal) (b : Bool) → b ≡ held L s q.who.0 q.on.0 q.right.0 → a ≡ Ok b → Checks L s p o r a s
-    check_says a b k i = (i ∙ rw ready.1 (found_is 0 b refl ∙ ap (answered 0) (k ∙ rw ready.3)), refl)
+    check_says a b k i = (i ∙ rw ready.1 (found_is 0 b refl ∙ ap (answer_with 0) (k ∙ rw ready.3)), refl)

@@ -14,17 +14,17 @@ use Rattle.model.specs.declared.Refusal.{Refusal}
 use Rattle.model.specs.declared.Refusal.TheVariants as is
 use Rattle.model.specs.Commands.{arguments_of}
 use Rattle.layouts.specs.Machine.{Machine, answer_of, judged_in, Judged}
-use Rattle.model.specs.Answers.{table, refusal_number, number_of, answered, answer_for, Returns, checked_yes}
+use Rattle.model.specs.Answers.{table, refusal_number, number_of, answer_with, answer_for, Returns, checked_yes}
 use Rattle.layouts.specs.Layouts.{Layout, is_in_order, guarded, facts_of, flat_unit, held, check_number, check_yes, Checks, Inspects, Freshens, fresh_image}
 use Rattle.layouts.specs.Subjects.{subjects_of, Tells}
-use Rattle.model.proofs.Answers.{numbered, refuses, refused, found, found_is, Known, answered_number, table-known, answer-known, checked_yes_lem}
+use Rattle.model.proofs.Answers.{numbered, refuses, refused, found, found_is, Known, known_number, table-known, answer-known, checked_yes_lem}
 use Rattle.layouts.proofs.Guarding.{guard_passed, guard_known, check_guard_known}
 
 -- ---- a command, in any machine
 module _ {S : Type 0} (M : Machine S) (s : S) where
   module _ (a : Arguments) (f : Facts) (e : f ≡ M.facts s a) where
     pub judged_number : (r : Result ⊤ Refusal) → r ≡ answer_for (table f a) → number_of r ≡ table (M.facts s a) a
-    judged_number r p = ap number_of p ∙ answered_number (table f a) tt (table-known f a) ∙ ap (λ g. table g a) e
+    judged_number r p = ap number_of p ∙ known_number (table f a) tt (table-known f a) ∙ ap (λ g. table g a) e
 
     -- where the table refuses: the state stays, and nothing is counted
     pub counting_stops : (r : Refusal) → Err r ≡ answer_for (table f a) → Returns (judged_in M s a) (Err r) s
@@ -38,7 +38,7 @@ module _ {S : Type 0} (M : Machine S) (s : S) where
         → Returns (judged_in M s a) (Ok k) x
     counting_goes z k x p u v =
         let t : 0 ≡ table (M.facts s a) a = judged_number (Ok z) p in
-        ((t, found_is _ _ (sym t) ∙ ap (answered _) (v ∙ sym (rw (← t)))), u ∙ sym (rw (← t)))
+        ((t, found_is _ _ (sym t) ∙ ap (answer_with _) (v ∙ sym (rw (← t)))), u ∙ sym (rw (← t)))
 
     -- the same of a unit that counts nothing
     pub judged_stops : (r : Refusal) → Err r ≡ answer_for (table f a) → Judged M s a (refusal_number r) s
@@ -90,7 +90,7 @@ pub told : (L : Layout) (s : List ℕ) (p o r : ℕ) (a : Result Bool Refusal) (
     → (number_of a ≡ check_number L s p o r) × (checked_yes a ≡ check_yes L s p o r) × (x ≡ s)
 told L s p o r a x h =
     let n = check_number L s p o r in (
-      ap number_of h.0 ∙ answered_number n (check_yes L s p o r) (check_known L s p o r),
+      ap number_of h.0 ∙ known_number n (check_yes L s p o r) (check_known L s p o r),
       ap checked_yes h.0 ∙ checked_yes_lem n (check_yes L s p o r) ∙ again (eqb n 0) (held L s p o r),
       h.1,
     )

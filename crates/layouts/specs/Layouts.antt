@@ -9,7 +9,7 @@ use Rattle.model.specs.declared.Facts.{Facts}
 use Rattle.model.specs.declared.Refusal.{Refusal}
 use Rattle.bits.specs.Sets.{any, all, all_below}
 use Rattle.model.specs.Commands.{members_of, depths}
-use Rattle.model.specs.Answers.{asked, Numbered, answered, flat, ◌when◌else◌}
+use Rattle.model.specs.Answers.{asked, Numbered, answer_with, flat, ◌when◌else◌}
 use Rattle.layouts.specs.Machine.{Machine, guarded_by}
 use Rattle.model.specs.Journal.{Grant, grant, of_each_depth}
 use Rattle.bits.specs.Cells.{at, image}
@@ -185,7 +185,7 @@ module _ (L : Layout) where
 
   -- answer a and image x of a check: its contract
   abbrev pub Checks : List ℕ → ℕ → ℕ → ℕ → Result Bool Refusal → List ℕ → Type 0
-  Checks s p o r a x = (a ≡ answered (check_number s p o r) (check_yes s p o r)) × (x ≡ check_left s p o r)
+  Checks s p o r a x = (a ≡ answer_with (check_number s p o r) (check_yes s p o r)) × (x ≡ check_left s p o r)
 
   -- the image of a fresh unit: item 0 lives, with an edit grant on itself
   unfoldable pub fresh_image : List ℕ

@@ -13,7 +13,7 @@ use Rattle.model.specs.declared.Arguments.{Arguments}
 use Rattle.std.specs.Prelude.{Some, None, Result, Ok, Err, IsErr, IsErrAnd, ⊤}
 use Rattle.model.specs.declared.Refusal.{Refusal}
 use Rattle.model.specs.declared.Refusal.TheVariants as is
-use Rattle.model.specs.Answers.{answer, refusal_number, refusal_for, number_of, answered, Numbered, effect_of, checked_yes, Found, nothing, found_in, found_said, table, asked, knows}
+use Rattle.model.specs.Answers.{answer, refusal_number, refusal_for, number_of, answer_with, Numbered, effect_of, checked_yes, Found, nothing, found_in, found_said, table, asked, knows}
 use Rattle.model.specs.Commands.{fits, items, right_depth, is_empty}
 
 pub refusal_for_lem : (r : Refusal) → refusal_for (refusal_number r) ≡ r
@@ -57,8 +57,8 @@ refuses is.NumbersSpent e = omega (arith, e)
 refuses is.NoTicket e = omega (arith, e)
 
 -- a refusal is told by its number
-pub refused_is : {A : Type 0} (r : Refusal) (n : ℕ) (a : A) → refusal_number r ≡ n → Err r ≡ answered n a
-unfolding answered
+pub refused_is : {A : Type 0} (r : Refusal) (n : ℕ) (a : A) → refusal_number r ≡ n → Err r ≡ answer_with n a
+unfolding answer_with
 refused_is r n a e =
     ap Err (sym (refusal_for_lem r) ∙ ap refusal_for e) ∙ sym (rw (ne_eqb n 0 (λ z. refuses r (e ∙ z))))
 
@@ -66,15 +66,15 @@ pub refused : {A : Type 0} (r : Refusal) (n : ℕ) (a : A) → refusal_number r 
 refused r n a e = (e, refused_is r n a e)
 
 -- so is what a call finds
-pub found_is : {A : Type 0} (n : ℕ) (a : A) → n ≡ 0 → Ok a ≡ answered n a
-unfolding answered
+pub found_is : {A : Type 0} (n : ℕ) (a : A) → n ≡ 0 → Ok a ≡ answer_with n a
+unfolding answer_with
 found_is n a e = sym (rw e)
 
 pub found : {A : Type 0} (n : ℕ) (a : A) → n ≡ 0 → Numbered (Ok a) n a
 found n a e = (sym e, found_is n a e)
 
 -- an answer that finds nothing is told by its number
-pub answer_is : (a : Result ⊤ Refusal) (n : ℕ) → number_of a ≡ n → a ≡ answered n tt
+pub answer_is : (a : Result ⊤ Refusal) (n : ℕ) → number_of a ≡ n → a ≡ answer_with n tt
 answer_is (Ok tt) n e = found_is n tt (sym e)
 answer_is (Err r) n e = refused_is r n tt e
 
@@ -97,16 +97,16 @@ stops true r x e = (refl, cc)
 stops false r x e = absurd (let z : ◌≡◌ {A = ℕ} 0 1 = cc in omega arith)
 
 -- the answer is that of the rows below one that doesn't apply
-pub below : (b : Bool) (n m : ℕ) (r : Result ⊤ Refusal) → b ≡ false → r ≡ answered m tt → r ≡ answered (cond b n m) tt
+pub below : (b : Bool) (n m : ℕ) (r : Result ⊤ Refusal) → b ≡ false → r ≡ answer_with m tt → r ≡ answer_with (cond b n m) tt
 below b n m r e k = k ∙ sym (rw e)
 
 -- and that of one that does
 pub row-is : (b : Bool) (n m : ℕ) (r : Result ⊤ Refusal) (x y : Refusal) → (b ≡ true) × (x ≡ y) → r ≡ Err x → refusal_number y ≡ n
-    → r ≡ answered (cond b n m) tt
+    → r ≡ answer_with (cond b n m) tt
 row-is b n m r x y h k e = k ∙ ap Err h.1 ∙ refused_is y n tt e ∙ sym (rw h.0)
 
 -- the last row, over number 0
-pub last-row : (b : Bool) (n : ℕ) (r : Refusal) → refusal_number r ≡ n → row-of b r ≡ answered (cond b n 0) tt
+pub last-row : (b : Bool) (n : ℕ) (r : Refusal) → refusal_number r ≡ n → row-of b r ≡ answer_with (cond b n 0) tt
 last-row true n r e = refused_is r n tt e
 last-row false n r e = found_is 0 tt refl
 
@@ -169,10 +169,10 @@ asked-known p o r =
     (record { answer = Ok tt; number = refl })
 
 -- an answer with a known number has it
-pub answered_number : {A : Type 0} (n : ℕ) (a : A) → Known n → number_of (answered n a) ≡ n
-unfolding answered
-answered_number zero a k = refl
-answered_number (suc n) a k =
+pub known_number : {A : Type 0} (n : ℕ) (a : A) → Known n → number_of (answer_with n a) ≡ n
+unfolding answer_with
+known_number zero a k = refl
+known_number (suc n) a k =
     rw (ne_eqb (suc n) 0 (λ z. omega arith)) (go k.answer k.number)
   where
     go : (r : Result ⊤ Refusal) → number_of r ≡ suc n → refusal_number (refusal_for (suc n)) ≡ suc n
@@ -180,14 +180,14 @@ answered_number (suc n) a k =
     go (Err r) e = ap refusal_number (ap refusal_for (sym e) ∙ refusal_for_lem r) ∙ e
 
 -- an answer with a count that is 0 beside a refusal has it
-pub counted_number : (n k : ℕ) → result_unwrap_or (answered n (cond (eqb n 0) k 0)) 0 ≡ cond (eqb n 0) k 0
-unfolding answered
+pub counted_number : (n k : ℕ) → result_unwrap_or (answer_with n (cond (eqb n 0) k 0)) 0 ≡ cond (eqb n 0) k 0
+unfolding answer_with
 counted_number zero k = refl
 counted_number (suc n) k = rw (ne_eqb (suc n) 0 (λ z. omega arith))
 
 -- ---- checks
-pub checked_yes_lem : (n : ℕ) (b : Bool) → checked_yes (answered n b) ≡ eqb n 0 && b
-unfolding answered
+pub checked_yes_lem : (n : ℕ) (b : Bool) → checked_yes (answer_with n b) ≡ eqb n 0 && b
+unfolding answer_with
 checked_yes_lem zero true = refl
 checked_yes_lem zero false = refl
 checked_yes_lem (suc n) b = rw (ne_eqb (suc n) 0 (λ z. omega arith))

@@ -64,16 +64,16 @@ number_of (Ok a) = 0
 number_of (Err r) = refusal_number r
 
 -- the answer with number n: what is found where n is 0, else the refusal
-unfoldable pub answered : {A : Type 0} → ℕ → A → Result A Refusal
-answered n a = cond (eqb n 0) (Ok a) (Err (refusal_for n))
+unfoldable pub answer_with : {A : Type 0} → ℕ → A → Result A Refusal
+answer_with n a = cond (eqb n 0) (Ok a) (Err (refusal_for n))
 
 -- the same of a call that finds nothing
 abbrev pub answer_for : ℕ → Result ⊤ Refusal
-answer_for n = answered n tt
+answer_for n = answer_with n tt
 
 -- r has number n, and finds a where that is 0
 abbrev pub Numbered : {A : Type 0} → Result A Refusal → ℕ → A → Type 0
-Numbered r n a = (number_of r ≡ n) × (r ≡ answered n a)
+Numbered r n a = (number_of r ≡ n) × (r ≡ answer_with n a)
 
 -- ---- a command: its effect
 -- what a command comes to in some state: its number, a count, and the state that it leaves

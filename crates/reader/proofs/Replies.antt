@@ -14,7 +14,7 @@ use Rattle.layouts.specs.Layouts.{Layout, lists, rows, flat_unit, check_number, 
 use Rattle.delegation.specs.Images.{images}
 use Rattle.delegation.specs.ChainUnit.{chain_unit, ChainChecks}
 use Rattle.agreement.specs.Agreement.{Units}
-use Rattle.model.proofs.Answers.{Known, answered_number, counted_number}
+use Rattle.model.proofs.Answers.{Known, known_number, counted_number}
 use Rattle.layouts.proofs.Ends.{flat-known, told}
 use Rattle.delegation.proofs.ChainEnds.{chain-told}
 use Rattle.lines.specs.declared.Request.{Request}
@@ -31,7 +31,7 @@ offered_said_lem : (L : Layout) (s : List ℕ) (c : Command) (o : Option (Result
 offered_said_lem L s c o x h = ap offered_of h.0 ∙ go (flat c) (answer_of (flat_unit L) s c) (flat-known L s c)
   where
     go : (b : Bool) (n : ℕ) → Known n → offered_of (cond b (Some (answer_for n)) None) ≡ offered_said b n
-    go true n k = ap Number (answered_number n tt k)
+    go true n k = ap Number (known_number n tt k)
     go false n k = refl
 
 module _ (u : Units) where

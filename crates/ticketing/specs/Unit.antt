@@ -1,7 +1,7 @@
 -- The ticket unit: the machine that the words of an image tell, after numbers 1 and 2. Here are the contracts of its functions.
 use Rattle.std.specs.Prelude.{◌≡◌, Bool, not, ◌&&◌, cond, Result, ⊤, List, ℕ, length, eqb}
 use Rattle.model.specs.declared.Refusal.{Refusal}
-use Rattle.model.specs.Answers.{asked, Numbered, answered, ◌when◌else◌}
+use Rattle.model.specs.Answers.{asked, Numbered, answer_with, ◌when◌else◌}
 use Rattle.layouts.specs.Machine.{guarded_by}
 use Rattle.ticketing.specs.declared.TicketCommand.{TicketCommand}
 use Rattle.ticketing.specs.Machine.{fresh_tickets, table, answer, apply, step, holds}
@@ -50,7 +50,7 @@ check_yes s p o r = eqb (check_number s p o r) 0 && holds (machine_of s) p o r
 
 -- answer a and image x of a check, which changes no image
 abbrev pub Checks : List ℕ → ℕ → ℕ → ℕ → Result Bool Refusal → List ℕ → Type 0
-Checks s p o r a x = (a ≡ answered (check_number s p o r) (check_yes s p o r)) × (x ≡ s)
+Checks s p o r a x = (a ≡ answer_with (check_number s p o r) (check_yes s p o r)) × (x ≡ s)
 
 -- the image of a fresh unit
 unfoldable pub fresh_image : List ℕ

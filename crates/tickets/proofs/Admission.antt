@@ -13,7 +13,7 @@ use Rattle.std.specs.Prelude.{Result, Ok, Err, ⊤}
 use Rattle.model.specs.declared.Question.{Question}
 use Rattle.model.specs.declared.Refusal.{Refusal}
 use Rattle.model.specs.Commands.{items, right_depth, asking}
-use Rattle.model.specs.Answers.{refusal_number, number_of, answered}
+use Rattle.model.specs.Answers.{refusal_number, number_of, answer_with}
 use Rattle.model.proofs.Answers.{refuses, refused, refused_is, found_is, numbered}
 use Rattle.model.proofs.Commands.{asked-ranged}
 use Rattle.layouts.specs.Machine.{guarded_by}
@@ -128,4 +128,4 @@ module _ (s : List ℕ) (p o r : ℕ) (order : Result ⊤ Refusal) (e : number_o
     pub check_says : (b : Bool) → b ≡ holds (machine_of s) q.who.0 q.on.0 q.right.0 → Checks s p o r (Ok b) s
     check_says b k =
         let asks = check_admitted (eqb (length s) ticket_words) (is_in_order (machine_of s)) p o r order e (Ok q) h in
-        (rw asks.1 (found_is 0 b refl ∙ ap (answered 0) (k ∙ rw asks.3)), refl)
+        (rw asks.1 (found_is 0 b refl ∙ ap (answer_with 0) (k ∙ rw asks.3)), refl)

@@ -2,7 +2,7 @@
 use Rattle.std.specs.Prelude.{◌≡◌, Option, Some, None, Result, Ok, Err, Bool, true, false, not, ◌&&◌, cond, List, [], ◌∷◌, map, ℕ, suc, ◌+◌, ◌*◌, ◌<◌, ◌≤◌, length, take, get_or, set, eqb}
 use Rattle.bits.specs.Sets.{all, keep}
 use Rattle.bits.specs.Bits.{bit}
-use Rattle.model.specs.Answers.{refusal_number, number_of, answered, ◌when◌else◌}
+use Rattle.model.specs.Answers.{refusal_number, number_of, answer_with, ◌when◌else◌}
 use Rattle.ticketing.specs.declared.Ticket.{Ticket}
 use Rattle.model.specs.declared.Refusal.{Refusal}
 use Rattle.ticketing.specs.declared.TicketCommand.TheVariants.{Generate}
@@ -54,7 +54,7 @@ pub record Issued (s : List ℕ) (place by on right : ℕ) : Type 0 where
 abbrev pub JudgedGenerate : List ℕ → ℕ → ℕ → ℕ → Result ℕ Refusal → List ℕ → Type 0
 JudgedGenerate s by on right r x =
     Judged s (Generate by on right) (number_of r) x
-    × (r ≡ answered (table (machine_of s) (Generate by on right))
+    × (r ≡ answer_with (table (machine_of s) (Generate by on right))
     (cond (eqb (table (machine_of s) (Generate by on right)) 0) (machine_of s).next 0))
 
 -- the image with these words at place k

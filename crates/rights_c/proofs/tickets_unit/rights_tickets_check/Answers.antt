@@ -8,7 +8,7 @@ use lib.Dec.{eqb}
 use Rattle.std.specs.Prelude.{Result}
 use Rattle.model.specs.declared.Refusal.{Refusal}
 use Rattle.model.specs.Answers.{number_of, checked_yes}
-use Rattle.model.proofs.Answers.{answered_number, checked_yes_lem}
+use Rattle.model.proofs.Answers.{known_number, checked_yes_lem}
 use Rattle.layouts.proofs.Guarding.{check_guard_known}
 use Rattle.ticketing.specs.Machine.{holds}
 use Rattle.ticketing.specs.Order.{is_in_order}
@@ -23,7 +23,7 @@ told : (s : List ℕ) (p o r : ℕ) (a : Result Bool Refusal) (x : List ℕ) →
 told s p o r a x h =
     let n = check_number s p o r in (
       ap number_of h.0
-          ∙ answered_number n (check_yes s p o r) (check_guard_known (eqb (length s) ticket_words) (is_in_order (machine_of s)) p o r),
+          ∙ known_number n (check_yes s p o r) (check_guard_known (eqb (length s) ticket_words) (is_in_order (machine_of s)) p o r),
       ap checked_yes h.0 ∙ checked_yes_lem n (check_yes s p o r) ∙ again (eqb n 0) (holds (machine_of s) p o r),
       h.1,
     )
