@@ -10,8 +10,9 @@ use lib.Seq.{drop-drop}
 use lib.Dec.{eqb}
 use Rattle.bits.proofs.Sets.{by_cases, fst, snd, both}
 use Rattle.std.specs.Prelude.{Option, Some, None}
+use Rattle.std.specs.Option.{option_and_then}
 use Rattle.lines.specs.Grammar.{Kind, number, set, Part, literal, value, count, shown_as, fits_as, written, within}
-use Rattle.lines.specs.Line.{starts_with, digit, digits, value_at, and_then, read_by}
+use Rattle.lines.specs.Line.{starts_with, digit, digits, value_at, read_by}
 use Rattle.lines.proofs.Line.{drop-end}
 use Rattle.lines.proofs.Decimal.{shown_32}
 use Rattle.lines.proofs.Values.{number_seen, number_read, starts_split, starts_self, drop_past}
@@ -46,7 +47,7 @@ pub record Seen (t : List Part) (s : List ℕ) (p : ℕ) (vs out : List ℕ) : T
   pub fits : within t ws ≡ true
 
 pub seen : (t : List Part) (s : List ℕ) (p : ℕ) (vs out : List ℕ) → read_by t s p vs ≡ Some out → Seen t s p vs out
-unfolding read_by and_then
+unfolding read_by
 seen [] s p vs out e =
     by_cases (eqb p (length s))
     (λ q.
@@ -75,7 +76,7 @@ seen (literal c ∷ t) s p vs out e =
 seen (value k ∷ t) s p vs out e = by_value (λ v n f. seen t s n (vs ++ (v ∷ [])) out f) (value_at k s p) refl e
   where
     by_value : ((v n : ℕ) → read_by t s n (vs ++ (v ∷ [])) ≡ Some out → Seen t s n (vs ++ (v ∷ [])) out) → (r : Option (ℕ × ℕ)) → value_at k s p ≡ r
-        → and_then r None (λ v n. read_by t s n (vs ++ (v ∷ []))) ≡ Some out → Seen (value k ∷ t) s p vs out
+        → option_and_then (λ x. read_by t s x.1 (vs ++ (x.0 ∷ []))) r ≡ Some out → Seen (value k ∷ t) s p vs out
     by_value go (Some (v, n)) q f =
         let i = go v n f in
         let h = value_seen k s p v n q in
@@ -107,7 +108,7 @@ stop_written (value k ∷ t) ws h = absurd (false≢true h)
 
 pub read : (t : List Part) (s : List ℕ) (p : ℕ) (vs ws : List ℕ) → sound t ≡ true → drop p s ≡ written t ws → length ws ≡ count t
     → within t ws ≡ true → p ≤ length s → read_by t s p vs ≡ Some (vs ++ ws)
-unfolding read_by and_then
+unfolding read_by
 read [] s p vs [] o e m f h =
     let g : p ≡ length s = omega (arith, length-drop p s, ap length e) in
     rw (eq-eqb p (length s) g, append-nil vs)

@@ -13,12 +13,13 @@ use lib.Seq.{take-suc-set, get_or-set_other, drop-cons}
 use lib.Dec.{eqb, ltb}
 use Rattle.bits.proofs.Sets.{by_cases, fst, snd, both}
 use Rattle.std.specs.Prelude.{Option, Some, None}
+use Rattle.std.specs.Option.{option_and_then}
 use Rattle.std.specs.Bool.{then_some}
 use Rattle.lines.specs.declared.Request.{Request}
 use Rattle.lines.specs.Bytes.{bytes}
 use Rattle.lines.specs.Grammar.{Kind, number, set, Part, literal, value, count, fits_as, within}
 use Rattle.lines.specs.Grammar.{Asks, applied, form_of, meaning}
-use Rattle.lines.specs.Line.{starts_with, value_at, number_at, set_at, and_then, read_by, values_by, or_else, parse_line}
+use Rattle.lines.specs.Line.{starts_with, value_at, number_at, set_at, read_by, values_by, or_else, parse_line}
 use Rattle.lines.specs.declared.Key.{Key}
 use Rattle.lines.specs.declared.Key.TheVariants.{By, Who, To, Set, On, Right, Last, Now, Depth}
 use Rattle.lines.specs.declared.Verb.{Verb}
@@ -154,19 +155,17 @@ module _ {w : List ℕ} {ks : List Key} {s vs : List ℕ} {p k : ℕ} (a : At w 
 
     -- the next key
     next : values_by (parts_of w ks) s
-        ≡ and_then (key_at x s p) None (λ v n. read_by (keys_parts (drop (k + 1) ks)) s n (take k vs ++ (v ∷ [])))
-    unfolding read_by and_then key_at field_at
+        ≡ option_and_then (λ r. read_by (keys_parts (drop (k + 1) ks)) s r.1 (take k vs ++ (r.0 ∷ []))) (key_at x s p)
+    unfolding read_by key_at field_at
     next =
         let t : List ℕ = key_text x in
         a.left ∙ rw (at, literals_read t (value (key_kind x) ∷ keys_parts (drop (k + 1) ks)) s p (take k vs))
         (by_cases (starts_with t (drop p s)) (λ q. rw q) (λ q. rw q))
 
     pub key_stop : key_at x s p ≡ None → values_by (parts_of w ks) s ≡ None
-    unfolding and_then
     key_stop q = next ∙ rw q
 
     pub key_turn : (v n : ℕ) → key_at x s p ≡ Some (v, n) → At w ks s (store vs k v) n (k + 1)
-    unfolding and_then
     key_turn v n q =
         record {
           inside = omega arith;

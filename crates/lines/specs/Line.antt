@@ -1,5 +1,6 @@
 -- What a line asks for, read by the patterns of the grammar. A line stands here without its byte 10.
 use Rattle.std.specs.Prelude.{Option, Some, None, Bool, true, false, not, ◌&&◌, ◌||◌, cond, List, [], ◌∷◌, ◌++◌, ℕ, ◌+◌, ◌-◌, ◌*◌, length, take, drop, get_or, eqb, leb}
+use Rattle.std.specs.Option.{option_and_then}
 use Rattle.bits.specs.Sets.{all}
 use Rattle.lines.specs.declared.Request.{Request}
 use Rattle.lines.specs.Grammar.{Kind, number, set, Part, literal, value, Form, forms, meaning}
@@ -64,16 +65,11 @@ value_at number s at = number_at s at
 value_at set s at = set_at s at
 
 -- ---- lines
--- goes on with a value and the place after it, or gives up
-unfoldable pub and_then : {A : Type 0} → Option (ℕ × ℕ) → A → (ℕ → ℕ → A) → A
-and_then (Some (v, n)) bad f = f v n
-and_then None bad f = bad
-
 -- reads s from place p on by what is left of a pattern, after the values vs; nothing comes after the pattern's end
 unfoldable pub read_by : List Part → List ℕ → ℕ → List ℕ → Option (List ℕ)
 read_by [] s p vs = cond (eqb p (length s)) (Some vs) None
 read_by (literal c ∷ t) s p vs = cond (starts_with (c ∷ []) (drop p s)) (read_by t s (p + 1) vs) None
-read_by (value k ∷ t) s p vs = and_then (value_at k s p) None (λ v n. read_by t s n (vs ++ (v ∷ [])))
+read_by (value k ∷ t) s p vs = option_and_then (λ r. read_by t s r.1 (vs ++ (r.0 ∷ []))) (value_at k s p)
 
 -- the values of the whole line s by a pattern, or none where s has another
 abbrev pub values_by : List Part → List ℕ → Option (List ℕ)

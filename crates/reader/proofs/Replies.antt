@@ -17,7 +17,6 @@ use Rattle.agreement.specs.Agreement.{Units}
 use Rattle.model.proofs.Answers.{Known, known_number, counted_number}
 use Rattle.layouts.proofs.Ends.{flat-known, told}
 use Rattle.delegation.proofs.ChainEnds.{chain-told}
-use Rattle.lines.specs.declared.Request.{Request}
 use Rattle.lines.specs.declared.Request.TheVariants.{Run, Ask}
 use Rattle.output.specs.declared.reply.Said.TheVariants.{Number}
 use Rattle.output.specs.declared.reply.Reply.{Reply}

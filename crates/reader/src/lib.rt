@@ -103,7 +103,9 @@ pub fn run(
             let via = [0u8; 8];
             Replied { reply, via }
         }
-        Some(Request::Ask { who, on, right }) => run_check(list, row, grants, loans, who, on, right),
+        Some(Request::Ask { who, on, right }) => run_check(
+            list, row, grants, loans, who, on, right,
+        ),
         None => {
             let reply = Reply::malformed();
             let via = [0u8; 8];
