@@ -8,10 +8,10 @@ use borrow.Author.Tests.{lt-ltb, le-ltb, ltb-false}
 use lib.ListN.{length, take}
 use lib.Seq.{length-take-le, length-sets}
 use lib.Dec.{eqb, ltb}
+use Rattle.std.specs.Prelude.{Option, None}
 use Rattle.bits.proofs.Sets.{by_cases}
 use Rattle.lines.specs.declared.collect.Partial.{Partial}
-use Rattle.lines.specs.declared.Parsed.{Parsed}
-use Rattle.lines.specs.declared.Parsed.TheVariants.{Malformed}
+use Rattle.lines.specs.declared.Request.{Request}
 use Rattle.lines.specs.Collect.{Line, line, last_line, lines_from, lines_of, parsed_of, before_newline, begun, past, buffer_after, ends_in}
 use Rattle.lines.specs.Chunks.{whole, pieces, Collector, empty_with, takes, collected}
 use Rattle.lines.proofs.Chunks.{Holds, holds-none, holds-fed, holds-line}
@@ -56,15 +56,15 @@ rejoin (c ∷ cs) l = rejoin_chunk cs (rejoin cs) l [] c ∙ ap (λ (k : List �
 
 -- ---- the collector
 -- some byte came where the line that is held has one
-begun-last : (buf : List ℕ) (p : Partial) (l : List ℕ) → Holds buf p l → cond (begun p) (Malformed ∷ []) [] ≡ map parsed_of (last_line l)
+begun-last : (buf : List ℕ) (p : Partial) (l : List ℕ) → Holds buf p l → cond (begun p) (None ∷ []) [] ≡ map parsed_of (last_line l)
 begun-last buf p l H = by_cases p.over (λ q. rw q (over l (H.long q))) (λ q. rw q (fits l (H.short q)))
   where
-    over : (l : List ℕ) → length buf < length l → Malformed ∷ [] ≡ map parsed_of (last_line l)
+    over : (l : List ℕ) → length buf < length l → None ∷ [] ≡ map parsed_of (last_line l)
     over [] h = absurd (omega arith)
     over (b ∷ l) h = refl
 
     fits : (l : List ℕ) → (take p.len buf ≡ l) × (p.len ≤ length buf)
-        → cond (ltb 0 p.len) (Malformed ∷ []) [] ≡ map parsed_of (last_line l)
+        → cond (ltb 0 p.len) (None ∷ []) [] ≡ map parsed_of (last_line l)
     fits [] h =
         let n : p.len ≡ 0 = sym (length-take-le p.len buf h.1) ∙ ap length h.0 in
         rw n
@@ -84,7 +84,7 @@ collects k l (x ∷ xs) big H =
     let F = holds-fed k.buffer k.held l x.text H in
     let n = buffer_stays k.buffer k.held x.text in
     by_cases x.ended
-    (λ q. rw q (ap₂ (λ (y : Parsed) (ys : List Parsed). y ∷ ys) (holds-line _ _ (l ++ x.text) (omega arith) F)
+    (λ q. rw q (ap₂ (λ (y : Option Request) (ys : List (Option Request)). y ∷ ys) (holds-line _ _ (l ++ x.text) (omega arith) F)
     (collects (empty_with (takes k x.text).buffer) [] xs (omega arith) (holds-none _))))
     (λ q. rw q (collects (takes k x.text) (l ++ x.text) xs (omega arith) F))
 

@@ -6,16 +6,16 @@ use mathlib.Core.Bool.{false, false≢true}
 use mathlib.Core.List.{List, []}
 use mathlib.Core.Logic.{◌⊎◌, inl, inr, ⊎_elim}
 use lib.ListN.{length, get_or}
-use Rattle.lines.specs.declared.Parsed.{Parsed}
-use Rattle.lines.specs.declared.Parsed.TheVariants.{Malformed}
+use Rattle.std.specs.Prelude.{Option, Some, None}
+use Rattle.lines.specs.declared.Request.{Request}
 use Rattle.lines.specs.Bytes.{bytes}
 use Rattle.lines.specs.Grammar.{form_of, written, Written}
-use Rattle.lines.specs.Line.{starts_with, Read, Got, Not, values_by, or_else, parse_line}
+use Rattle.lines.specs.Line.{starts_with, values_by, or_else, parse_line}
 use Rattle.lines.proofs.Patterns.{seen, read, written-width}
 use Rattle.lines.proofs.Verbs.{verb-sound, verb-width, verb_begins, verb_at, verb-fits, verb-told, only-told, only_reads}
 
 -- every line of the grammar is read as what it asks for
-pub reads : {s : List ℕ} {x : Parsed} → Written s x → parse_line s ≡ x
+pub reads : {s : List ℕ} {x : Option Request} → Written s x → parse_line s ≡ x
 unfolding or_else
 reads {s} {x} w =
     let u : verb_at s ≡ w.verb = ap verb_at w.line ∙ verb-told w.verb w.values w.known in
@@ -23,13 +23,13 @@ reads {s} {x} w =
     only_reads s (verb_at s) (only-told s) ∙ rw (u, r) (sym w.means)
 
 -- and every line that is read is one of the grammar
-pub reads_only : (s : List ℕ) → (parse_line s ≡ Malformed) ⊎ Written s (parse_line s)
+pub reads_only : (s : List ℕ) → (parse_line s ≡ None) ⊎ Written s (parse_line s)
 unfolding or_else
 reads_only s = rw (only_reads s (verb_at s) (only-told s)) (from (values_by (form_of (verb_at s)).pattern s) refl)
   where
-    from : (x : Read) → values_by (form_of (verb_at s)).pattern s ≡ x
-        → (or_else (form_of (verb_at s)) x Malformed ≡ Malformed) ⊎ Written s (or_else (form_of (verb_at s)) x Malformed)
-    from (Got vs) e =
+    from : (x : Option (List ℕ)) → values_by (form_of (verb_at s)).pattern s ≡ x
+        → (or_else (form_of (verb_at s)) x None ≡ None) ⊎ Written s (or_else (form_of (verb_at s)) x None)
+    from (Some vs) e =
         let i = seen (form_of (verb_at s)).pattern s 0 [] vs e in
         inr record {
           verb = verb_at s;
@@ -40,10 +40,10 @@ reads_only s = rw (only_reads s (verb_at s) (only-told s)) (from (values_by (for
           small = rw i.whole i.fits;
           means = refl;
         }
-    from Not e = inl refl
+    from None e = inl refl
 
 -- a line of more than 128 bytes is malformed, so a line buffer of 128 bytes loses nothing
-pub long_malformed : (s : List ℕ) → 128 < length s → parse_line s ≡ Malformed
+pub long_malformed : (s : List ℕ) → 128 < length s → parse_line s ≡ None
 long_malformed s h =
     ⊎_elim (λ e. e)
     (λ (w : Written s (parse_line s)).
@@ -51,7 +51,7 @@ long_malformed s h =
     (reads_only s)
 
 -- and so is one that does not begin with do=
-pub other_malformed : (s : List ℕ) → starts_with (bytes "do=") s ≡ false → parse_line s ≡ Malformed
+pub other_malformed : (s : List ℕ) → starts_with (bytes "do=") s ≡ false → parse_line s ≡ None
 other_malformed s e =
     ⊎_elim (λ m. m)
     (λ (w : Written s (parse_line s)).

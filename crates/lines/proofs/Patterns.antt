@@ -10,8 +10,9 @@ use lib.Seq.{drop-drop}
 use lib.Dec.{eqb}
 use Rattle.bits.proofs.Sets.{by_cases, fst, snd, both}
 use Rattle.std.specs.Prelude.{Option, Some, None}
+use Rattle.std.specs.Option.{option_and_then}
 use Rattle.lines.specs.Grammar.{Kind, number, set, Part, literal, value, count, shown_as, fits_as, written, within}
-use Rattle.lines.specs.Line.{starts_with, digit, digits, value_at, and_then, Got, Not, read_by}
+use Rattle.lines.specs.Line.{starts_with, digit, digits, value_at, read_by}
 use Rattle.lines.proofs.Line.{drop-end}
 use Rattle.lines.proofs.Decimal.{shown_32}
 use Rattle.lines.proofs.Values.{number_seen, number_read, starts_split, starts_self, drop_past}
@@ -45,12 +46,12 @@ pub record Seen (t : List Part) (s : List ℕ) (p : ℕ) (vs out : List ℕ) : T
   pub many : length ws ≡ count t
   pub fits : within t ws ≡ true
 
-pub seen : (t : List Part) (s : List ℕ) (p : ℕ) (vs out : List ℕ) → read_by t s p vs ≡ Got out → Seen t s p vs out
-unfolding read_by and_then
+pub seen : (t : List Part) (s : List ℕ) (p : ℕ) (vs out : List ℕ) → read_by t s p vs ≡ Some out → Seen t s p vs out
+unfolding read_by
 seen [] s p vs out e =
     by_cases (eqb p (length s))
     (λ q.
-    let f : Got vs ≡ Got out = rw q at e in
+    let f : Some vs ≡ Some out = rw q at e in
     let g : vs ≡ out = cc in
     record {
       ws = [];
@@ -59,7 +60,7 @@ seen [] s p vs out e =
       many = refl;
       fits = refl;
     })
-    (λ q. let f : Not ≡ Got out = rw q at e in let z : ◌≡◌ {A = ℕ} 0 1 = cc in absurd (omega arith))
+    (λ q. let f : None ≡ Some out = rw q at e in let z : ◌≡◌ {A = ℕ} 0 1 = cc in absurd (omega arith))
 seen (literal c ∷ t) s p vs out e =
     by_cases (starts_with (c ∷ []) (drop p s))
     (λ q.
@@ -71,11 +72,11 @@ seen (literal c ∷ t) s p vs out e =
       many = i.many;
       fits = i.fits;
     })
-    (λ q. let f : Not ≡ Got out = rw q at e in let z : ◌≡◌ {A = ℕ} 0 1 = cc in absurd (omega arith))
+    (λ q. let f : None ≡ Some out = rw q at e in let z : ◌≡◌ {A = ℕ} 0 1 = cc in absurd (omega arith))
 seen (value k ∷ t) s p vs out e = by_value (λ v n f. seen t s n (vs ++ (v ∷ [])) out f) (value_at k s p) refl e
   where
-    by_value : ((v n : ℕ) → read_by t s n (vs ++ (v ∷ [])) ≡ Got out → Seen t s n (vs ++ (v ∷ [])) out) → (r : Option (ℕ × ℕ)) → value_at k s p ≡ r
-        → and_then r Not (λ v n. read_by t s n (vs ++ (v ∷ []))) ≡ Got out → Seen (value k ∷ t) s p vs out
+    by_value : ((v n : ℕ) → read_by t s n (vs ++ (v ∷ [])) ≡ Some out → Seen t s n (vs ++ (v ∷ [])) out) → (r : Option (ℕ × ℕ)) → value_at k s p ≡ r
+        → option_and_then (λ x. read_by t s x.1 (vs ++ (x.0 ∷ []))) r ≡ Some out → Seen (value k ∷ t) s p vs out
     by_value go (Some (v, n)) q f =
         let i = go v n f in
         let h = value_seen k s p v n q in
@@ -106,8 +107,8 @@ stop_written (literal c ∷ t) ws h = by_cases (digit c) (λ q. absurd (false≢
 stop_written (value k ∷ t) ws h = absurd (false≢true h)
 
 pub read : (t : List Part) (s : List ℕ) (p : ℕ) (vs ws : List ℕ) → sound t ≡ true → drop p s ≡ written t ws → length ws ≡ count t
-    → within t ws ≡ true → p ≤ length s → read_by t s p vs ≡ Got (vs ++ ws)
-unfolding read_by and_then
+    → within t ws ≡ true → p ≤ length s → read_by t s p vs ≡ Some (vs ++ ws)
+unfolding read_by
 read [] s p vs [] o e m f h =
     let g : p ≡ length s = omega (arith, length-drop p s, ap length e) in
     rw (eq-eqb p (length s) g, append-nil vs)
@@ -123,7 +124,7 @@ read (value k ∷ t) s p vs (w ∷ ws) o e m f h =
     let i = read t s (p + length (shown_as k w)) (vs ++ (w ∷ [])) ws (snd (stop t) (sound t) o)
     (drop_past s p (shown_as k w) (written t ws) e) (omega (arith, m)) (snd (fits_as k w) (within t ws) f)
     (omega (arith, length-drop p s, ap length e)) in
-    rw (value_read k s p w (written t ws) e b z) (i ∙ ap Got (append_assoc vs (w ∷ []) ws))
+    rw (value_read k s p w (written t ws) e b z) (i ∙ ap Some (append_assoc vs (w ∷ []) ws))
 
 -- ---- the bytes before the first value
 abbrev pub prefix : List Part → List ℕ

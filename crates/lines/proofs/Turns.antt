@@ -13,13 +13,13 @@ use lib.Seq.{take-suc-set, get_or-set_other, drop-cons}
 use lib.Dec.{eqb, ltb}
 use Rattle.bits.proofs.Sets.{by_cases, fst, snd, both}
 use Rattle.std.specs.Prelude.{Option, Some, None}
+use Rattle.std.specs.Option.{option_and_then}
 use Rattle.std.specs.Bool.{then_some}
-use Rattle.lines.specs.declared.Parsed.{Parsed}
-use Rattle.lines.specs.declared.Parsed.TheVariants.{Malformed}
+use Rattle.lines.specs.declared.Request.{Request}
 use Rattle.lines.specs.Bytes.{bytes}
 use Rattle.lines.specs.Grammar.{Kind, number, set, Part, literal, value, count, fits_as, within}
 use Rattle.lines.specs.Grammar.{Asks, applied, form_of, meaning}
-use Rattle.lines.specs.Line.{starts_with, value_at, number_at, set_at, and_then, Read, Got, Not, read_by, values_by, or_else, parse_line}
+use Rattle.lines.specs.Line.{starts_with, value_at, number_at, set_at, read_by, values_by, or_else, parse_line}
 use Rattle.lines.specs.declared.Key.{Key}
 use Rattle.lines.specs.declared.Key.TheVariants.{By, Who, To, Set, On, Right, Last, Now, Depth}
 use Rattle.lines.specs.declared.Verb.{Verb}
@@ -31,7 +31,7 @@ use Rattle.lines.proofs.Verbs.{only_reads}
 
 -- a run of literal bytes
 literals_read : (w : List ℕ) (t : List Part) (s : List ℕ) (p : ℕ) (vs : List ℕ)
-    → read_by (literals w t) s p vs ≡ cond (starts_with w (drop p s)) (read_by t s (p + length w) vs) Not
+    → read_by (literals w t) s p vs ≡ cond (starts_with w (drop p s)) (read_by t s (p + length w) vs) None
 unfolding read_by
 literals_read [] t s p vs = rw (add-zero p)
 literals_read (c ∷ w) t s p vs =
@@ -101,16 +101,16 @@ zeros (suc n) (suc i) = zeros n i
 module _ (w : List ℕ) (ks : List Key) (s : List ℕ) where
   -- do= and the word
   head_read : values_by (parts_of w ks) s
-      ≡ cond (starts_with (bytes "do=") s) (cond (starts_with w (drop 3 s)) (read_by (keys_parts ks) s (3 + length w) []) Not) Not
+      ≡ cond (starts_with (bytes "do=") s) (cond (starts_with w (drop 3 s)) (read_by (keys_parts ks) s (3 + length w) []) None) None
   head_read =
       literals_read (bytes "do=") (literals w (keys_parts ks)) s 0 []
       ∙ by_cases (starts_with (bytes "do=") s) (λ q. rw q (literals_read w (keys_parts ks) s 3 [])) (λ q. rw q)
 
-  pub do_other : after_at (bytes "do=") s 0 ≡ None → values_by (parts_of w ks) s ≡ Not
+  pub do_other : after_at (bytes "do=") s 0 ≡ None → values_by (parts_of w ks) s ≡ None
   do_other e = head_read ∙ rw (after_no (bytes "do=") s 0 e)
 
   module _ (p : ℕ) (d : after_at (bytes "do=") s 0 ≡ Some p) where
-    pub word_other : after_at w s p ≡ None → values_by (parts_of w ks) s ≡ Not
+    pub word_other : after_at w s p ≡ None → values_by (parts_of w ks) s ≡ None
     word_other e =
         let h = after_yes (bytes "do=") s 0 p d in
         let f : starts_with w (drop 3 s) ≡ false = rw (sym h.1) at (after_no w s p e) in
@@ -136,7 +136,7 @@ taken_blank (v ∷ vs) (suc k) b zero = refl
 taken_blank (v ∷ vs) (suc k) b (suc j) = taken_blank vs k (λ i m. b (suc i) (omega arith)) j
 
 -- a line that is not read
-pub read_not : {x : Read} → x ≡ Not → ReadAs x None
+pub read_not : {x : Option (List ℕ)} → x ≡ None → ReadAs x None
 unfolding ReadAs
 read_not e = rw e tt
 
@@ -155,19 +155,17 @@ module _ {w : List ℕ} {ks : List Key} {s vs : List ℕ} {p k : ℕ} (a : At w 
 
     -- the next key
     next : values_by (parts_of w ks) s
-        ≡ and_then (key_at x s p) Not (λ v n. read_by (keys_parts (drop (k + 1) ks)) s n (take k vs ++ (v ∷ [])))
-    unfolding read_by and_then key_at field_at
+        ≡ option_and_then (λ r. read_by (keys_parts (drop (k + 1) ks)) s r.1 (take k vs ++ (r.0 ∷ []))) (key_at x s p)
+    unfolding read_by key_at field_at
     next =
         let t : List ℕ = key_text x in
         a.left ∙ rw (at, literals_read t (value (key_kind x) ∷ keys_parts (drop (k + 1) ks)) s p (take k vs))
         (by_cases (starts_with t (drop p s)) (λ q. rw q) (λ q. rw q))
 
-    pub key_stop : key_at x s p ≡ None → values_by (parts_of w ks) s ≡ Not
-    unfolding and_then
+    pub key_stop : key_at x s p ≡ None → values_by (parts_of w ks) s ≡ None
     key_stop q = next ∙ rw q
 
     pub key_turn : (v n : ℕ) → key_at x s p ≡ Some (v, n) → At w ks s (store vs k v) n (k + 1)
-    unfolding and_then
     key_turn v n q =
         record {
           inside = omega arith;
@@ -228,7 +226,7 @@ within-next k t (v ∷ vs) zero h = (fst (fits_as k v) (within t vs) h, snd (fit
 within-next k t (v ∷ vs) (suc i) h = within-next k t vs i h
 
 -- what a form asks for by the values vs, where the code hands on ns for its numbers
-abbrev pub narrowed : (t : List Part) → Asks (count t) → ℕ → List ℕ → List ℕ → Parsed
+abbrev pub narrowed : (t : List Part) → Asks (count t) → ℕ → List ℕ → List ℕ → Option Request
 narrowed [] x i ns vs = x
 narrowed (literal c ∷ t) f i ns vs = narrowed t f i ns vs
 narrowed (value number ∷ t) f i ns vs = narrowed t (f (get_or ns i 0)) (suc i) ns vs
@@ -263,23 +261,23 @@ module _ (s : List ℕ) (v : ℕ) where
   unfolding ReadAs
   parse_within out h = from (values_by (form_of v).pattern s) refl h
     where
-      from : (x : Read) → values_by (form_of v).pattern s ≡ x → ReadAs x (Some out) → within (form_of v).pattern out ≡ true
-      from (Got vs) q h = let i = seen (form_of v).pattern s 0 [] vs q in same-within (form_of v).pattern out vs h (rw i.whole i.fits)
-      from Not q h = absurd h
+      from : (x : Option (List ℕ)) → values_by (form_of v).pattern s ≡ x → ReadAs x (Some out) → within (form_of v).pattern out ≡ true
+      from (Some vs) q h = let i = seen (form_of v).pattern s 0 [] vs q in same-within (form_of v).pattern out vs h (rw i.whole i.fits)
+      from None q h = absurd h
 
   module _ (o : Only s v) where
     pub parse_got : (out : List ℕ) → ReadAs (values_by (form_of v).pattern s) (Some out) → meaning (form_of v) out ≡ parse_line s
     unfolding ReadAs or_else meaning
     parse_got out h = from (values_by (form_of v).pattern s) refl h ∙ sym (only_reads s v o)
       where
-        from : (x : Read) → values_by (form_of v).pattern s ≡ x → ReadAs x (Some out) → meaning (form_of v) out ≡ or_else (form_of v) x Malformed
-        from (Got vs) q h = same-applied (count (form_of v).pattern) (form_of v).asks 0 out vs h
-        from Not q h = absurd h
+        from : (x : Option (List ℕ)) → values_by (form_of v).pattern s ≡ x → ReadAs x (Some out) → meaning (form_of v) out ≡ or_else (form_of v) x None
+        from (Some vs) q h = same-applied (count (form_of v).pattern) (form_of v).asks 0 out vs h
+        from None q h = absurd h
 
-    pub parse_not : ReadAs (values_by (form_of v).pattern s) None → Malformed ≡ parse_line s
+    pub parse_not : ReadAs (values_by (form_of v).pattern s) None → None ≡ parse_line s
     unfolding ReadAs or_else
     parse_not h = from (values_by (form_of v).pattern s) h ∙ sym (only_reads s v o)
       where
-        from : (x : Read) → ReadAs x None → Malformed ≡ or_else (form_of v) x Malformed
-        from (Got vs) h = absurd h
-        from Not h = refl
+        from : (x : Option (List ℕ)) → ReadAs x None → None ≡ or_else (form_of v) x None
+        from (Some vs) h = absurd h
+        from None h = refl

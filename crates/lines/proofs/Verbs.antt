@@ -9,13 +9,13 @@ use lib.Arith.{lt_of_le-ne}
 use borrow.Author.Tests.{leb-true, ltb-true, eqb-true, eqb-false}
 use lib.ListN.{length, get_or}
 use lib.Dec.{eqb, leb, ltb}
+use Rattle.std.specs.Prelude.{Option, Some, None}
 use Rattle.bits.specs.Sets.{all, all_below}
 use Rattle.bits.proofs.Sets.{by_cases, fst, snd}
-use Rattle.lines.specs.declared.Parsed.{Parsed}
-use Rattle.lines.specs.declared.Parsed.TheVariants.{Malformed}
+use Rattle.lines.specs.declared.Request.{Request}
 use Rattle.lines.specs.Bytes.{bytes}
 use Rattle.lines.specs.Grammar.{Part, Form, no_form, forms, form_of, written, meaning}
-use Rattle.lines.specs.Line.{starts_with, Read, Got, Not, values_by, or_else, parse_by, parse_line}
+use Rattle.lines.specs.Line.{starts_with, values_by, or_else, parse_by, parse_line}
 use Rattle.lines.specs.Reader.{Only}
 use Rattle.lines.proofs.Patterns.{seen, sound, prefix, prefix_at, starts_written, widest}
 
@@ -107,35 +107,35 @@ only_by s v a b e h =
 -- ---- so one form decides what the line asks for
 -- no form of fs but the one at v reads s
 OnlyOf : List Form → List ℕ → ℕ → Type 0
-OnlyOf fs s v = (u : ℕ) (vs : List ℕ) → u < length fs → values_by (get_or fs u no_form).pattern s ≡ Got vs → u ≡ v
+OnlyOf fs s v = (u : ℕ) (vs : List ℕ) → u < length fs → values_by (get_or fs u no_form).pattern s ≡ Some vs → u ≡ v
 
-none_reads : (fs : List Form) (s : List ℕ) → ((u : ℕ) (vs : List ℕ) → u < length fs → values_by (get_or fs u no_form).pattern s ≡ Got vs → ⊥)
-    → parse_by fs s ≡ Malformed
+none_reads : (fs : List Form) (s : List ℕ) → ((u : ℕ) (vs : List ℕ) → u < length fs → values_by (get_or fs u no_form).pattern s ≡ Some vs → ⊥)
+    → parse_by fs s ≡ None
 unfolding or_else
 none_reads [] s h = refl
 none_reads (f ∷ fs) s h = from (none_reads fs s (λ u vs k e. h (suc u) vs (omega arith) e)) (values_by f.pattern s) refl
   where
-    from : parse_by fs s ≡ Malformed → (x : Read) → values_by f.pattern s ≡ x → or_else f x (parse_by fs s) ≡ Malformed
-    from i (Got vs) e = absurd (h 0 vs (omega arith) e)
-    from i Not e = i
+    from : parse_by fs s ≡ None → (x : Option (List ℕ)) → values_by f.pattern s ≡ x → or_else f x (parse_by fs s) ≡ None
+    from i (Some vs) e = absurd (h 0 vs (omega arith) e)
+    from i None e = i
 
 one_reads : (fs : List Form) (s : List ℕ) (v : ℕ) → OnlyOf fs s v
-    → parse_by fs s ≡ or_else (get_or fs v no_form) (values_by (get_or fs v no_form).pattern s) Malformed
+    → parse_by fs s ≡ or_else (get_or fs v no_form) (values_by (get_or fs v no_form).pattern s) None
 unfolding OnlyOf or_else meaning
 one_reads [] s v h = none (values_by [] s)
   where
-    none : (x : Read) → Malformed ≡ or_else no_form x Malformed
-    none (Got vs) = refl
-    none Not = refl
+    none : (x : Option (List ℕ)) → None ≡ or_else no_form x None
+    none (Some vs) = refl
+    none None = refl
 one_reads (f ∷ fs) s zero h =
     ap (or_else f (values_by f.pattern s)) (none_reads fs s (λ u vs k e. let z = h (suc u) vs (omega arith) e in absurd (omega arith)))
 one_reads (f ∷ fs) s (suc v) h =
     from (one_reads fs s v (λ u vs k e. let z = h (suc u) vs (omega arith) e in omega arith)) (values_by f.pattern s) refl
   where
-    from : {y : Parsed} → parse_by fs s ≡ y → (x : Read) → values_by f.pattern s ≡ x → or_else f x (parse_by fs s) ≡ y
-    from i (Got vs) e = let z = h 0 vs (omega arith) e in absurd (omega arith)
-    from i Not e = i
+    from : {y : Option Request} → parse_by fs s ≡ y → (x : Option (List ℕ)) → values_by f.pattern s ≡ x → or_else f x (parse_by fs s) ≡ y
+    from i (Some vs) e = let z = h 0 vs (omega arith) e in absurd (omega arith)
+    from i None e = i
 
-pub only_reads : (s : List ℕ) (v : ℕ) → Only s v → parse_line s ≡ or_else (form_of v) (values_by (form_of v).pattern s) Malformed
+pub only_reads : (s : List ℕ) (v : ℕ) → Only s v → parse_line s ≡ or_else (form_of v) (values_by (form_of v).pattern s) None
 unfolding parse_line Only OnlyOf
 only_reads s v h = one_reads forms s v h

@@ -1,8 +1,7 @@
 -- The collector over a list of chunks.
-use Rattle.std.specs.Prelude.{cond, List, [], ◌∷◌, ◌++◌, ℕ, length}
+use Rattle.std.specs.Prelude.{Option, None, cond, List, [], ◌∷◌, ◌++◌, ℕ, length}
 use Rattle.lines.specs.declared.collect.Partial.{Partial}
-use Rattle.lines.specs.declared.Parsed.{Parsed}
-use Rattle.lines.specs.declared.Parsed.TheVariants.{Malformed}
+use Rattle.lines.specs.declared.Request.{Request}
 use Rattle.lines.specs.Collect.{Line, lines_of, nothing_held, begun, held_after, buffer_after, held_line}
 
 -- the chunks as one
@@ -29,8 +28,8 @@ abbrev pub takes : Collector → List ℕ → Collector
 takes k seg = record { buffer = buffer_after k.buffer k.held seg; held = held_after (length k.buffer) k.held seg }
 
 -- what the lines that end ask for, as `line` says; and one malformed line more where input ends in a line that has begun
-unfoldable pub collected : Collector → List Line → List Parsed
-collected k [] = cond (begun k.held) (Malformed ∷ []) []
+unfoldable pub collected : Collector → List Line → List (Option Request)
+collected k [] = cond (begun k.held) (None ∷ []) []
 collected k (x ∷ xs) =
     cond x.ended (held_line (takes k x.text).buffer (takes k x.text).held ∷ collected (empty_with (takes k x.text).buffer) xs)
     (collected (takes k x.text) xs)

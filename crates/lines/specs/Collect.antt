@@ -1,10 +1,9 @@
 -- Input as lines, and the collector that puts them together from chunks.
-use Rattle.std.specs.Prelude.{Bool, true, false, ◌||◌, cond, List, [], ◌∷◌, ◌++◌, ℕ, ◌+◌, length, take, eqb, ltb}
+use Rattle.std.specs.Prelude.{Option, None, Bool, true, false, ◌||◌, cond, List, [], ◌∷◌, ◌++◌, ℕ, ◌+◌, length, take, eqb, ltb}
 use Rattle.std.proofs.lemmas.List.Edits.{sets}
 use Rattle.lines.specs.declared.collect.Partial.{Partial}
 use Rattle.lines.specs.declared.collect.Fed.{Fed}
-use Rattle.lines.specs.declared.Parsed.{Parsed}
-use Rattle.lines.specs.declared.Parsed.TheVariants.{Malformed}
+use Rattle.lines.specs.declared.Request.{Request}
 use Rattle.lines.specs.Line.{parse_line}
 
 -- ---- lines
@@ -32,8 +31,8 @@ abbrev pub lines_of : List ℕ → List Line
 lines_of s = lines_from [] s
 
 -- what a line asks for; 'one not ended is malformed'
-abbrev pub parsed_of : Line → Parsed
-parsed_of x = cond x.ended (parse_line x.text) Malformed
+abbrev pub parsed_of : Line → Option Request
+parsed_of x = cond x.ended (parse_line x.text) None
 
 -- ---- the collector
 -- the bytes before the first byte 10
@@ -79,5 +78,5 @@ abbrev pub fed_of : ℕ → Partial → List ℕ → Fed
 fed_of cap p chunk = record { ended = ends_in chunk; used = used_in chunk; held = held_after cap p (before_newline chunk) }
 
 -- what an ended line asks for; one that is longer than the buffer is malformed
-abbrev pub held_line : List ℕ → Partial → Parsed
-held_line buf p = cond (past (length buf) p 0) Malformed (parse_line (take p.len buf))
+abbrev pub held_line : List ℕ → Partial → Option Request
+held_line buf p = cond (past (length buf) p 0) None (parse_line (take p.len buf))

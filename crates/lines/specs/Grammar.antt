@@ -1,10 +1,10 @@
 -- The command lines that are not malformed: a line of text for each verb. `parse_line` reads exactly these (`reads`, `reads_only` in
 -- proofs/Grammar). A line stands here without its byte 10.
-use Rattle.std.specs.Prelude.{◌≡◌, Bool, true, ◌&&◌, cond, List, [], ◌∷◌, ◌++◌, ℕ, zero, suc, ◌^◌, ◌<◌, length, get_or, eqb, leb, ltb}
+use Rattle.std.specs.Prelude.{◌≡◌, Option, Some, None, Bool, true, ◌&&◌, cond, List, [], ◌∷◌, ◌++◌, ℕ, zero, suc, ◌^◌, ◌<◌, length, get_or, eqb, leb, ltb}
 use Prim.Native.String.{String}
 use Rattle.model.specs.declared.Command.TheVariants.{Create, Delete, Allow, AllowSet, Withdraw, Drop, Lend, Recall, Shift, Sweep}
-use Rattle.lines.specs.declared.Parsed.{Parsed}
-use Rattle.lines.specs.declared.Parsed.TheVariants.{Run, Ask, Malformed}
+use Rattle.lines.specs.declared.Request.{Request}
+use Rattle.lines.specs.declared.Request.TheVariants.{Run, Ask}
 use Rattle.lines.specs.Bytes.{bytes}
 use Rattle.lines.specs.Show.{shown, shown_set}
 
@@ -29,9 +29,9 @@ count [] = 0
 count (literal c ∷ t) = count t
 count (value k ∷ t) = suc (count t)
 
--- what a line asks for, by its n values in their order
+-- what a line asks for, by its n values in their order; a malformed line asks for None
 abbrev pub Asks : ℕ → Type 0
-Asks zero = Parsed
+Asks zero = Option Request
 Asks (suc n) = ℕ → Asks n
 
 -- a verb's line: its pattern, and what it asks for
@@ -49,34 +49,34 @@ form t f = record { pattern = parts (bytes t); asks = f }
 -- place in this list
 abbrev pub forms : List Form
 forms =
-    form "do=create by=# on=#" (λ by on. Run (Create by on)) ∷
-    form "do=delete by=# on=#" (λ by on. Run (Delete by on)) ∷
-    form "do=allow by=# to=# on=# right=# depth=#" (λ by to on right depth. Run (Allow by to on right depth)) ∷
-    form "do=allowset by=# set=@ on=# right=# depth=#" (λ by set on right depth. Run (AllowSet by set on right depth)) ∷
-    form "do=withdraw by=# to=# on=# right=#" (λ by to on right. Run (Withdraw by to on right)) ∷
-    form "do=drop by=# to=# on=# right=# depth=#" (λ by to on right depth. Run (Drop by to on right depth)) ∷
-    form "do=lend by=# to=# on=# right=# depth=# last=#" (λ by to on right depth last. Run (Lend by to on right depth last)) ∷
-    form "do=recall by=# to=# on=# right=# depth=# last=#" (λ by to on right depth last. Run (Recall by to on right depth last)) ∷
-    form "do=shift by=# now=#" (λ by now. Run (Shift by now)) ∷
-    form "do=sweep by=#" (λ by. Run (Sweep by)) ∷
-    form "do=check who=# on=# right=#" (λ who on right. Ask who on right) ∷
+    form "do=create by=# on=#" (λ by on. Some (Run (Create by on))) ∷
+    form "do=delete by=# on=#" (λ by on. Some (Run (Delete by on))) ∷
+    form "do=allow by=# to=# on=# right=# depth=#" (λ by to on right depth. Some (Run (Allow by to on right depth))) ∷
+    form "do=allowset by=# set=@ on=# right=# depth=#" (λ by set on right depth. Some (Run (AllowSet by set on right depth))) ∷
+    form "do=withdraw by=# to=# on=# right=#" (λ by to on right. Some (Run (Withdraw by to on right))) ∷
+    form "do=drop by=# to=# on=# right=# depth=#" (λ by to on right depth. Some (Run (Drop by to on right depth))) ∷
+    form "do=lend by=# to=# on=# right=# depth=# last=#" (λ by to on right depth last. Some (Run (Lend by to on right depth last))) ∷
+    form "do=recall by=# to=# on=# right=# depth=# last=#" (λ by to on right depth last. Some (Run (Recall by to on right depth last))) ∷
+    form "do=shift by=# now=#" (λ by now. Some (Run (Shift by now))) ∷
+    form "do=sweep by=#" (λ by. Some (Run (Sweep by))) ∷
+    form "do=check who=# on=# right=#" (λ who on right. Some (Ask who on right)) ∷
     []
 
 -- what stands past the end of the list
 abbrev pub no_form : Form
-no_form = form "" Malformed
+no_form = form "" None
 
 -- the form of a verb
 abbrev pub form_of : ℕ → Form
 form_of v = get_or forms v no_form
 
 -- n values in a list, from place k on, handed to what asks for them
-abbrev pub applied : (n : ℕ) → Asks n → ℕ → List ℕ → Parsed
+abbrev pub applied : (n : ℕ) → Asks n → ℕ → List ℕ → Option Request
 applied zero x k vs = x
 applied (suc n) f k vs = applied n (f (get_or vs k 0)) (suc k) vs
 
 -- what a form asks for with these values
-unfoldable pub meaning : Form → List ℕ → Parsed
+unfoldable pub meaning : Form → List ℕ → Option Request
 meaning f vs = applied (count f.pattern) f.asks 0 vs
 
 -- the bytes of a value: 'decimal .. no leading zero but for 0 itself', or '16 lowercase hexadecimal digits, highest first'
@@ -104,7 +104,7 @@ within (value k ∷ t) [] = true
 within (value k ∷ t) (v ∷ vs) = fits_as k v && within t vs
 
 -- the line s asks for x: it is the line of a verb with as many values as its pattern has, each within its limit
-pub record Written (s : List ℕ) (x : Parsed) : Type 0 where
+pub record Written (s : List ℕ) (x : Option Request) : Type 0 where
   pub verb : ℕ
   pub known : verb < length forms
   pub values : List ℕ

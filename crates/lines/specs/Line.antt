@@ -1,8 +1,8 @@
 -- What a line asks for, read by the patterns of the grammar. A line stands here without its byte 10.
 use Rattle.std.specs.Prelude.{Option, Some, None, Bool, true, false, not, ◌&&◌, ◌||◌, cond, List, [], ◌∷◌, ◌++◌, ℕ, ◌+◌, ◌-◌, ◌*◌, length, take, drop, get_or, eqb, leb}
+use Rattle.std.specs.Option.{option_and_then}
 use Rattle.bits.specs.Sets.{all}
-use Rattle.lines.specs.declared.Parsed.{Parsed}
-use Rattle.lines.specs.declared.Parsed.TheVariants.{Malformed}
+use Rattle.lines.specs.declared.Request.{Request}
 use Rattle.lines.specs.Grammar.{Kind, number, set, Part, literal, value, Form, forms, meaning}
 
 -- l begins with w
@@ -65,36 +65,26 @@ value_at number s at = number_at s at
 value_at set s at = set_at s at
 
 -- ---- lines
--- the values of a line, or none where its pattern is another
-pub data Read : Type 0 where
-  Got : List ℕ → Read
-  Not : Read
-
--- goes on with a value and the place after it, or gives up
-unfoldable pub and_then : {A : Type 0} → Option (ℕ × ℕ) → A → (ℕ → ℕ → A) → A
-and_then (Some (v, n)) bad f = f v n
-and_then None bad f = bad
-
 -- reads s from place p on by what is left of a pattern, after the values vs; nothing comes after the pattern's end
-unfoldable pub read_by : List Part → List ℕ → ℕ → List ℕ → Read
-read_by [] s p vs = cond (eqb p (length s)) (Got vs) Not
-read_by (literal c ∷ t) s p vs = cond (starts_with (c ∷ []) (drop p s)) (read_by t s (p + 1) vs) Not
-read_by (value k ∷ t) s p vs = and_then (value_at k s p) Not (λ v n. read_by t s n (vs ++ (v ∷ [])))
+unfoldable pub read_by : List Part → List ℕ → ℕ → List ℕ → Option (List ℕ)
+read_by [] s p vs = cond (eqb p (length s)) (Some vs) None
+read_by (literal c ∷ t) s p vs = cond (starts_with (c ∷ []) (drop p s)) (read_by t s (p + 1) vs) None
+read_by (value k ∷ t) s p vs = option_and_then (λ r. read_by t s r.1 (vs ++ (r.0 ∷ []))) (value_at k s p)
 
--- the values of the whole line s by a pattern
-abbrev pub values_by : List Part → List ℕ → Read
+-- the values of the whole line s by a pattern, or none where s has another
+abbrev pub values_by : List Part → List ℕ → Option (List ℕ)
 values_by t s = read_by t s 0 []
 
 -- what a form asks for where it read the line, and else x
-unfoldable pub or_else : Form → Read → Parsed → Parsed
-or_else f (Got vs) x = meaning f vs
-or_else f Not x = x
+unfoldable pub or_else : Form → Option (List ℕ) → Option Request → Option Request
+or_else f (Some vs) x = meaning f vs
+or_else f None x = x
 
 -- what the line s asks for: the form that reads it says so. 'Any other line, an empty one .. is malformed'
-abbrev pub parse_by : List Form → List ℕ → Parsed
-parse_by [] s = Malformed
+abbrev pub parse_by : List Form → List ℕ → Option Request
+parse_by [] s = None
 parse_by (f ∷ fs) s = or_else f (values_by f.pattern s) (parse_by fs s)
 
 -- by all forms
-unfoldable pub parse_line : List ℕ → Parsed
+unfoldable pub parse_line : List ℕ → Option Request
 parse_line s = parse_by forms s

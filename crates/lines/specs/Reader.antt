@@ -6,7 +6,7 @@ use Rattle.lines.specs.declared.Verb.{Verb}
 use Rattle.lines.specs.declared.Verb.TheVariants.{Create, Delete, Allow, AllowSet, Withdraw, Drop, Lend, Recall, Shift, Sweep, Check}
 use Rattle.lines.specs.Bytes.{bytes}
 use Rattle.lines.specs.Grammar.{Kind, number, set, Part, literal, value, forms, form_of}
-use Rattle.lines.specs.Line.{starts_with, hexadecimal, hex_value, value_at, Read, Got, Not, values_by}
+use Rattle.lines.specs.Line.{starts_with, hexadecimal, hex_value, value_at, values_by}
 
 -- the place after the bytes of w, where they stand at a place of s
 unfoldable pub after_at : List ℕ → List ℕ → ℕ → Option ℕ
@@ -111,12 +111,12 @@ abbrev pub most : ℕ
 most = 6
 
 -- r has the values that were read, and 0 after them
-unfoldable pub ReadAs : Read → Option (List ℕ) → Type 0
-ReadAs (Got vs) (Some out) = (i : ℕ) → get_or out i 0 ≡ get_or vs i 0
-ReadAs (Got vs) None = ⊥
-ReadAs Not (Some out) = ⊥
-ReadAs Not None = Unit
+unfoldable pub ReadAs : Option (List ℕ) → Option (List ℕ) → Type 0
+ReadAs (Some vs) (Some out) = (i : ℕ) → get_or out i 0 ≡ get_or vs i 0
+ReadAs (Some vs) None = ⊥
+ReadAs None (Some out) = ⊥
+ReadAs None None = Unit
 
 -- no verb but v has the line s
 unfoldable pub Only : List ℕ → ℕ → Type 0
-Only s v = (u : ℕ) (vs : List ℕ) → u < length forms → values_by (form_of u).pattern s ≡ Got vs → u ≡ v
+Only s v = (u : ℕ) (vs : List ℕ) → u < length forms → values_by (form_of u).pattern s ≡ Some vs → u ≡ v

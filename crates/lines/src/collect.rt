@@ -3,10 +3,10 @@ ghost use Rattle.std.specs.Prelude.{◌≡◌, nat_eq, ◌≤◌, length};
 ghost use Rattle.std.specs.List.{position};
 ghost use Rattle.lines.specs.Collect.{before_newline, nothing_held, begun, past, after_line, fed_of, buffer_after, held_line};
 
-use crate::Parsed;
+use crate::Request;
 
 // How much of a line is held, and whether it is longer than the buffer: both, for the length stays where a line goes past it
-// (`held_after`).
+// (`held_after`). The line itself is in a buffer that the caller lends from call to call: memory is fixed.
 #[derive(Clone, Copy)]
 pub struct Partial {
     pub len: usize,
@@ -61,7 +61,7 @@ fn after_line(n: usize, size: usize) -> usize
     if n < size { n + 1 } else { n }
 }
 
-// Whether the line ended, how many bytes were taken, and what is held.
+// Whether the line ended, how many bytes were taken, and what is held: no Option, for a line that goes on has the other two as well.
 #[derive(Clone, Copy)]
 pub struct Fed {
     pub ended: bool,
@@ -96,13 +96,13 @@ pub fn feed(buf: &mut [u8], p: Partial, chunk: &[u8]) -> Fed
     }
 }
 
-// What a line that ended asks for.
-pub fn line(buf: &[u8], held: Partial) -> Parsed
+// What a line that ended asks for, None where it is malformed.
+pub fn line(buf: &[u8], held: Partial) -> Option<Request>
     ensures { result ≡ held_line buf.now held }
 {
     let len = held.len;
     if is_past(held, buf.len(), 0) {
-        return Parsed::Malformed;
+        return None;
     }
     crate::parse(&buf[..len])
 }

@@ -7,12 +7,12 @@ use model::Command;
 pub mod collect;
 pub mod show;
 
-ghost use Rattle.std.specs.Prelude.{◌≡◌, true, not, map, ◌%◌, ◌≤◌, length, get_or};
+ghost use Rattle.std.specs.Prelude.{◌≡◌, Some, true, not, map, ◌%◌, ◌≤◌, length, get_or};
 ghost use Rattle.std.specs.List.{position};
 ghost use Rattle.std.specs.Char.{is_ascii_digit};
 ghost use Rattle.bits.specs.Sets.{all};
 ghost use Rattle.model.specs.declared.Command.TheVariants.{Allow, AllowSet, Withdraw, Drop, Lend, Recall};
-ghost use Rattle.lines.specs.declared.Parsed.TheVariants.{Run, Ask};
+ghost use Rattle.lines.specs.declared.Request.TheVariants.{Run, Ask};
 ghost use Rattle.lines.specs.Grammar.{form_of, meaning, within};
 ghost use Rattle.lines.specs.Line.{digit, digits, value_of, number_at, set_of, set_at, values_by, parse_line};
 ghost use Rattle.lines.specs.Reader.{after_at, hex_value_of, key_text, key_at, place, word_of, keys_of, parts_of, ReadAs, Only};
@@ -238,19 +238,18 @@ fn values_of(s: &[u8], verb: Verb) -> Option<[u64; MOST]>
     (at == s.len()).then_some(values)
 }
 
-// What a line asks for.
+// What a line that is not malformed asks for.
 #[derive(Clone, Copy)]
-pub enum Parsed {
+pub enum Request {
     Run(Command),
     Ask { who: u32, on: u32, right: u32 },
-    Malformed,
 }
 
-// What the verbs with more than two fields ask for.
-fn allow(by: u32, to: u32, on: u32, right: u32, depth: u32) -> Parsed
+// What the verbs with more than two fields ask for: with these literals in its arms `meaning_of` would have over 40 lines.
+fn allow(by: u32, to: u32, on: u32, right: u32, depth: u32) -> Request
     ensures { result ≡ Run (Allow by to on right depth) }
 {
-    Parsed::Run(Command::Allow {
+    Request::Run(Command::Allow {
         by,
         to,
         on,
@@ -259,10 +258,10 @@ fn allow(by: u32, to: u32, on: u32, right: u32, depth: u32) -> Parsed
     })
 }
 
-fn allow_set(by: u32, set: u64, on: u32, right: u32, depth: u32) -> Parsed
+fn allow_set(by: u32, set: u64, on: u32, right: u32, depth: u32) -> Request
     ensures { result ≡ Run (AllowSet by set on right depth) }
 {
-    Parsed::Run(Command::AllowSet {
+    Request::Run(Command::AllowSet {
         by,
         set,
         on,
@@ -271,16 +270,16 @@ fn allow_set(by: u32, set: u64, on: u32, right: u32, depth: u32) -> Parsed
     })
 }
 
-fn withdraw(by: u32, to: u32, on: u32, right: u32) -> Parsed
+fn withdraw(by: u32, to: u32, on: u32, right: u32) -> Request
     ensures { result ≡ Run (Withdraw by to on right) }
 {
-    Parsed::Run(Command::Withdraw { by, to, on, right })
+    Request::Run(Command::Withdraw { by, to, on, right })
 }
 
-fn drop_depth(by: u32, to: u32, on: u32, right: u32, depth: u32) -> Parsed
+fn drop_depth(by: u32, to: u32, on: u32, right: u32, depth: u32) -> Request
     ensures { result ≡ Run (Drop by to on right depth) }
 {
-    Parsed::Run(Command::Drop {
+    Request::Run(Command::Drop {
         by,
         to,
         on,
@@ -289,10 +288,10 @@ fn drop_depth(by: u32, to: u32, on: u32, right: u32, depth: u32) -> Parsed
     })
 }
 
-fn lend(by: u32, to: u32, on: u32, right: u32, depth: u32, last: u32) -> Parsed
+fn lend(by: u32, to: u32, on: u32, right: u32, depth: u32, last: u32) -> Request
     ensures { result ≡ Run (Lend by to on right depth last) }
 {
-    Parsed::Run(Command::Lend {
+    Request::Run(Command::Lend {
         by,
         to,
         on,
@@ -302,10 +301,10 @@ fn lend(by: u32, to: u32, on: u32, right: u32, depth: u32, last: u32) -> Parsed
     })
 }
 
-fn recall(by: u32, to: u32, on: u32, right: u32, depth: u32, last: u32) -> Parsed
+fn recall(by: u32, to: u32, on: u32, right: u32, depth: u32, last: u32) -> Request
     ensures { result ≡ Run (Recall by to on right depth last) }
 {
-    Parsed::Run(Command::Recall {
+    Request::Run(Command::Recall {
         by,
         to,
         on,
@@ -315,10 +314,10 @@ fn recall(by: u32, to: u32, on: u32, right: u32, depth: u32, last: u32) -> Parse
     })
 }
 
-fn ask(who: u32, on: u32, right: u32) -> Parsed
+fn ask(who: u32, on: u32, right: u32) -> Request
     ensures { result ≡ Ask who on right }
 {
-    Parsed::Ask { who, on, right }
+    Request::Ask { who, on, right }
 }
 
 // The lowest 32 bits of each: of a number, the number itself.
@@ -329,22 +328,22 @@ fn lowest(values: [u64; MOST]) -> [u32; MOST]
 }
 
 // What the line of a verb with these values asks for.
-fn meaning_of(verb: Verb, values: [u64; MOST]) -> Parsed
+fn meaning_of(verb: Verb, values: [u64; MOST]) -> Request
     requires { within (form_of (place verb)).pattern values ≡ true }
-    ensures { result ≡ meaning (form_of (place verb)) values }
+    ensures { Some result ≡ meaning (form_of (place verb)) values }
 {
     let [a, b, c, d, e, f] = lowest(values);
     match verb {
-        Verb::Create => Parsed::Run(Command::Create { by: a, on: b }),
-        Verb::Delete => Parsed::Run(Command::Delete { by: a, on: b }),
+        Verb::Create => Request::Run(Command::Create { by: a, on: b }),
+        Verb::Delete => Request::Run(Command::Delete { by: a, on: b }),
         Verb::Allow => allow(a, b, c, d, e),
         Verb::AllowSet => allow_set(a, values[1], c, d, e),
         Verb::Withdraw => withdraw(a, b, c, d),
         Verb::Drop => drop_depth(a, b, c, d, e),
         Verb::Lend => lend(a, b, c, d, e, f),
         Verb::Recall => recall(a, b, c, d, e, f),
-        Verb::Shift => Parsed::Run(Command::Shift { by: a, now: b }),
-        Verb::Sweep => Parsed::Run(Command::Sweep { by: a }),
+        Verb::Shift => Request::Run(Command::Shift { by: a, now: b }),
+        Verb::Sweep => Request::Run(Command::Sweep { by: a }),
         Verb::Check => ask(a, b, c),
     }
 }
@@ -356,13 +355,11 @@ fn byte(s: &[u8], at: usize) -> u8
     s.get(at).copied().unwrap_or(0)
 }
 
-// What a line asks for; the line comes without its byte 10.
-pub fn parse(line: &[u8]) -> Parsed
+// What a line asks for, None where it is malformed; the line comes without its byte 10.
+pub fn parse(line: &[u8]) -> Option<Request>
     ensures { result ≡ parse_line line.now }
 {
     let verb = Verb::of(line);
-    match values_of(line, verb) {
-        Some(values) => meaning_of(verb, values),
-        None => Parsed::Malformed,
-    }
+    let values = values_of(line, verb)?;
+    Some(meaning_of(verb, values))
 }

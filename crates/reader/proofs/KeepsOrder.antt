@@ -3,6 +3,7 @@ use mathlib.Core.Path.{sym, ap, ◌∙◌}
 use mathlib.Core.Bool.{Bool, true, false, cond}
 use mathlib.Core.List.{List}
 use Prim.Native.Nat.{ℕ}
+use Rattle.std.specs.Prelude.{Option, Some, None}
 use Rattle.model.specs.declared.Command.{Command}
 use Rattle.model.specs.Answers.{flat}
 use Rattle.model.specs.Journal.{fresh}
@@ -17,8 +18,8 @@ use Rattle.delegation.specs.ChainUnit.{chain_guard}
 use Rattle.delegation.proofs.ChainUnit.{guard_chain, fresh-chain}
 use Rattle.delegation.proofs.KeepsOrder.{chain_keeps_order}
 use Rattle.agreement.specs.Agreement.{Units, fresh_units}
-use Rattle.lines.specs.declared.Parsed.{Parsed}
-use Rattle.lines.specs.declared.Parsed.TheVariants.{Run, Ask, Malformed}
+use Rattle.lines.specs.declared.Request.{Request}
+use Rattle.lines.specs.declared.Request.TheVariants.{Run, Ask}
 use Rattle.transcript.specs.Program.{units_after}
 use Rattle.reader.specs.Replies.{UnitsInOrder}
 
@@ -28,15 +29,15 @@ called-or-not : {S : Type 0} (M : Machine S) → KeepsOrder M → (s : S) (c : C
 called-or-not M k s c true g = k s c g
 called-or-not M k s c false g = g
 
-pub line_keeps_order : (u : Units) (x : Parsed) → UnitsInOrder u → UnitsInOrder (units_after u x)
+pub line_keeps_order : (u : Units) (x : Option Request) → UnitsInOrder u → UnitsInOrder (units_after u x)
 unfolding units_after
-line_keeps_order u (Run c) h = record {
+line_keeps_order u (Some (Run c)) h = record {
   list = called-or-not (flat_unit lists) lists-keep-order u.lists c (flat c) h.list;
   row = called-or-not (flat_unit rows) rows-keep-order u.rows c (flat c) h.row;
   chain = chain_keeps_order u.chains c h.chain;
 }
-line_keeps_order u (Ask who on right) h = h
-line_keeps_order u Malformed h = h
+line_keeps_order u (Some (Ask who on right)) h = h
+line_keeps_order u None h = h
 
 pub fresh-in_order : UnitsInOrder fresh_units
 unfolding fresh_units

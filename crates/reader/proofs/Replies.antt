@@ -1,5 +1,5 @@
 -- What the units' contracts say is the reply to a line: for the function that runs a line on the three units.
-use mathlib.Core.Path.{◌≡◌, refl, sym, ap, ◌∙◌, subst}
+use mathlib.Core.Path.{◌≡◌, refl, ap, ◌∙◌}
 use mathlib.Core.Bool.{Bool, true, false, cond}
 use mathlib.Core.List.{List}
 use Prim.Native.Nat.{ℕ}
@@ -17,8 +17,7 @@ use Rattle.agreement.specs.Agreement.{Units}
 use Rattle.model.proofs.Answers.{Known, known_number, counted_number}
 use Rattle.layouts.proofs.Ends.{flat-known, told}
 use Rattle.delegation.proofs.ChainEnds.{chain-told}
-use Rattle.lines.specs.declared.Parsed.{Parsed}
-use Rattle.lines.specs.declared.Parsed.TheVariants.{Run, Ask, Malformed}
+use Rattle.lines.specs.declared.Request.TheVariants.{Run, Ask}
 use Rattle.output.specs.declared.reply.Said.TheVariants.{Number}
 use Rattle.output.specs.declared.reply.Reply.{Reply}
 use Rattle.output.specs.Output.{reply, offered_said, offered_of, command_tail, check_said, check_tail, malformed_reply, lent_buffer}
@@ -39,7 +38,7 @@ module _ (u : Units) where
   pub command_replies : (c : Command) (l r : Option (Result ⊤ Refusal)) (a : Result ℕ Refusal) (x y g t : List ℕ) (s : Reply) → Offers (flat_unit lists) u.lists c l x
       → Offers (flat_unit rows) u.rows c r y → RanCounting chain_unit u.chains c a (images g t)
       → s ≡ reply (offered_of l) (offered_of r) (Number (number_of a)) (command_tail c (number_of a) (result_unwrap_or a 0))
-      → Replies u (Run c) s lent_buffer (units_in x y g t)
+      → Replies u (Some (Run c)) s lent_buffer (units_in x y g t)
   unfolding reply_of via_of units_after
   command_replies c l r a x y g t s hl hr hc e =
       let k : result_unwrap_or a 0 ≡ counted_of chain_unit u.chains c = ap (λ (x : Result ℕ Refusal). result_unwrap_or x 0) hc.0.1 ∙ counted_number (answer_of chain_unit u.chains c) _ in
@@ -62,7 +61,7 @@ module _ (u : Units) where
       → ChainChecks u.chains lent_buffer p o k a via (images g t)
       → s ≡ reply (check_said (number_of l) (checked_yes l)) (check_said (number_of r) (checked_yes r))
       (check_said (number_of a) (found_in a).yes) (check_tail (found_in a))
-      → Replies u (Ask p o k) s via (units_in x y g t)
+      → Replies u (Some (Ask p o k)) s via (units_in x y g t)
   unfolding reply_of via_of units_after
   check_replies p o k l r a x y g t via s hl hr hc e =
       let z = chain-told u.chains lent_buffer p o k a hc.0 in
@@ -75,10 +74,6 @@ module _ (u : Units) where
       }
 
   -- a malformed line
-  pub malformed_replies : (s : Reply) → s ≡ malformed_reply → Replies u Malformed s lent_buffer u
+  pub malformed_replies : (s : Reply) → s ≡ malformed_reply → Replies u None s lent_buffer u
   unfolding reply_of via_of units_after
   malformed_replies s e = record { reply = e; buffer = refl; units = refl }
-
--- what is asked, in another form
-pub as_asked : {u u' : Units} {x y : Parsed} {s : Reply} {via : List ℕ} → x ≡ y → Replies u y s via u' → Replies u x s via u'
-as_asked {u} {u'} {x} {y} {s} {via} e h = subst (λ (z : Parsed). Replies u z s via u') (sym e) h

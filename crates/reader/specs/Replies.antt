@@ -1,5 +1,5 @@
 -- One line, run on the three units in their lent buffers; and the three units made fresh.
-use Rattle.std.specs.Prelude.{◌≡◌, Bool, ◌&&◌, cond, Result, ⊤, List, ℕ, length, eqb}
+use Rattle.std.specs.Prelude.{◌≡◌, Option, Bool, ◌&&◌, cond, Result, ⊤, List, ℕ, length, eqb}
 use Rattle.model.specs.declared.Refusal.{Refusal}
 use Rattle.model.specs.Answers.{Numbered}
 use Rattle.layouts.specs.Machine.{InOrder}
@@ -8,7 +8,7 @@ use Rattle.delegation.specs.Loans.{loan_words}
 use Rattle.delegation.specs.Images.{images}
 use Rattle.delegation.specs.ChainUnit.{chain_unit}
 use Rattle.agreement.specs.Agreement.{Units, fresh_units}
-use Rattle.lines.specs.declared.Parsed.{Parsed}
+use Rattle.lines.specs.declared.Request.{Request}
 use Rattle.output.specs.declared.reply.Reply.{Reply}
 use Rattle.transcript.specs.Program.{reply_of, via_of, units_after}
 
@@ -24,7 +24,7 @@ pub record UnitsInOrder (u : Units) : Type 0 where
   pub chain : InOrder chain_unit u.chains
 
 -- what running a line replies, and what it leaves in the chain buffer and the units
-pub record Replies (u : Units) (x : Parsed) (r : Reply) (via : List ℕ) (u' : Units) : Type 0 where
+pub record Replies (u : Units) (x : Option Request) (r : Reply) (via : List ℕ) (u' : Units) : Type 0 where
   pub reply : r ≡ reply_of u x
   pub buffer : via ≡ via_of u x
   pub units : u' ≡ units_after u x

@@ -2,12 +2,13 @@
 
 #![tactic(auto)]
 
-ghost use Rattle.lines.specs.declared.Parsed.TheVariants.{Run, Ask};
+ghost use Rattle.std.specs.Prelude.{Some};
+ghost use Rattle.lines.specs.declared.Request.TheVariants.{Run, Ask};
 ghost use Rattle.output.specs.Output.{lent_buffer};
 ghost use Rattle.reader.specs.Replies.{units_in, Replies, Starts};
 
 use layouts::flat::FlatUnit;
-use lines::Parsed;
+use lines::Request;
 use lists::Lists;
 use model::{Command, Refusal};
 use output::reply::Reply;
@@ -55,7 +56,7 @@ fn run_command(
     loans: &mut [u32],
     c: Command,
 ) -> Reply
-    ensures { Replies (units_in list.old row.old grants.old loans.old) (Run c) result
+    ensures { Replies (units_in list.old row.old grants.old loans.old) (Some (Run c)) result
         lent_buffer (units_in list.new row.new grants.new loans.new) }
 {
     let l = Lists::offer(list, c);
@@ -75,7 +76,7 @@ fn run_check(
     right: u32,
 ) -> Replied
     ensures { Replies (units_in list.now row.now grants.now loans.now)
-        (Ask who on right) result.reply result.via (units_in list.now row.now grants.now loans.now) }
+        (Some (Ask who on right)) result.reply result.via (units_in list.now row.now grants.now loans.now) }
 {
     let mut via = [0u8; 8];
     let l = Lists::check(list, who, on, right);
@@ -91,19 +92,21 @@ pub fn run(
     row: &mut [u8],
     grants: &mut [u8],
     loans: &mut [u32],
-    line: Parsed,
+    line: Option<Request>,
 ) -> Replied
     ensures { Replies (units_in list.old row.old grants.old loans.old) line result.reply
         result.via (units_in list.new row.new grants.new loans.new) }
 {
     match line {
-        Parsed::Run(c) => {
+        Some(Request::Run(c)) => {
             let reply = run_command(list, row, grants, loans, c);
             let via = [0u8; 8];
             Replied { reply, via }
         }
-        Parsed::Ask { who, on, right } => run_check(list, row, grants, loans, who, on, right),
-        Parsed::Malformed => {
+        Some(Request::Ask { who, on, right }) => run_check(
+            list, row, grants, loans, who, on, right,
+        ),
+        None => {
             let reply = Reply::malformed();
             let via = [0u8; 8];
             Replied { reply, via }

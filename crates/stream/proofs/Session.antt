@@ -11,9 +11,10 @@ use borrow.Author.Tests.{eqb-true, eqb-false, lt-ltb, le-ltb, ltb-true, leb-true
 use lib.ListN.{length, take, drop, length-append, length-drop, take-append-drop}
 use lib.Seq.{take_all, take-add, drop-drop, drop-length}
 use lib.Dec.{eqb, leb}
+use Rattle.std.specs.Prelude.{Option}
 use Rattle.agreement.specs.Agreement.{Units}
 use Rattle.bits.proofs.Sets.{by_cases, both}
-use Rattle.lines.specs.declared.Parsed.{Parsed}
+use Rattle.lines.specs.declared.Request.{Request}
 use Rattle.lines.specs.declared.collect.Partial.{Partial}
 use Rattle.lines.specs.declared.collect.Fed.{Fed}
 use Rattle.lines.specs.Show.{Wrote}
@@ -78,7 +79,7 @@ parts_same buffer big parts =
     parts-pieces (fresh_session buffer) parts ∙ sym (collected-output 0 _ _ (pieces parts)) ∙ chunks_same buffer big parts
 
 -- ---- a line that ended
-pub line_runs : (u u' : Units) (x : Parsed) (n : ℕ) (out out' : List ℕ) (at r : ℕ) (s : Reply) (via : List ℕ) → room (length out) at ≡ true
+pub line_runs : (u u' : Units) (x : Option Request) (n : ℕ) (out out' : List ℕ) (at r : ℕ) (s : Reply) (via : List ℕ) → room (length out) at ≡ true
     → Replies u x s via u' → Puts out at (output_line n s via) r out' → Runs u x n out at r u' out'
 line_runs u u' x n out out' at r s via e h p = record {
   units = h.units;

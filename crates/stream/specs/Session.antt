@@ -1,7 +1,7 @@
 -- The program between two chunks of input: what it keeps, what it writes for each piece of input, and what it writes at the end.
-use Rattle.std.specs.Prelude.{◌≡◌, Bool, ◌&&◌, cond, List, [], ◌∷◌, ◌++◌, ℕ, ◌+◌, ◌≤◌, length, leb, ltb}
+use Rattle.std.specs.Prelude.{◌≡◌, Option, Bool, ◌&&◌, cond, List, [], ◌∷◌, ◌++◌, ℕ, ◌+◌, ◌≤◌, length, leb, ltb}
 use Rattle.agreement.specs.Agreement.{Units, fresh_units}
-use Rattle.lines.specs.declared.Parsed.{Parsed}
+use Rattle.lines.specs.declared.Request.{Request}
 use Rattle.lines.specs.declared.collect.Partial.{Partial}
 use Rattle.lines.specs.Show.{Wrote}
 use Rattle.lines.specs.Collect.{Line, line, lines_of, before_newline, nothing_held, begun, ends_in, used_in, held_line}
@@ -25,7 +25,7 @@ abbrev pub fresh_session : List ℕ → Session
 fresh_session buffer = session 0 fresh_units buffer nothing_held
 
 -- what the line asks for that ends with the piece x
-abbrev pub asks_in : Session → Line → Parsed
+abbrev pub asks_in : Session → Line → Option Request
 asks_in s x = held_line (takes s.collector x.text).buffer (takes s.collector x.text).held
 
 -- after a piece of input: a line that ends is run, and one that doesn't is held
@@ -68,7 +68,7 @@ abbrev pub piece_of : List ℕ → Line
 piece_of chunk = line (before_newline chunk) (ends_in chunk)
 
 -- line n that ended run, and its output written from a place on; r is the place after it
-pub record Runs (u : Units) (x : Parsed) (n : ℕ) (out : List ℕ) (at r : ℕ) (u' : Units) (out' : List ℕ) : Type 0 where
+pub record Runs (u : Units) (x : Option Request) (n : ℕ) (out : List ℕ) (at r : ℕ) (u' : Units) (out' : List ℕ) : Type 0 where
   pub units : u' ≡ units_after u x
   pub output : Wrote out at (output_line n (reply_of u x) (via_of u x)) r out'
   pub short : r ≤ at + 128

@@ -7,6 +7,7 @@ use lib.ListN.{length, length-map}
 use lib.Seq.{take-length}
 use lib.Dec.{eqb}
 use borrow.Author.Tests.{eqb-true}
+use Rattle.std.specs.Prelude.{Option, Some, None}
 use Rattle.model.specs.declared.Command.{Command}
 use Rattle.bits.proofs.Sets.{by_cases}
 use Rattle.model.specs.Commands.{is_sweep}
@@ -14,8 +15,8 @@ use Rattle.model.specs.Answers.{asked, flat}
 use Rattle.model.specs.Journal.{Journal, answered, counted, has_grant}
 use Rattle.model.proofs.Steps.{sweep_passed}
 use Rattle.model.specs.Chain.{granted, lent, JournalChain}
-use Rattle.lines.specs.declared.Parsed.{Parsed}
-use Rattle.lines.specs.declared.Parsed.TheVariants.{Run, Ask, Malformed}
+use Rattle.lines.specs.declared.Request.{Request}
+use Rattle.lines.specs.declared.Request.TheVariants.{Run, Ask}
 use Rattle.output.specs.declared.reply.Said.TheVariants.{Number, Yes, No, Passed}
 use Rattle.output.specs.declared.reply.Tail.TheVariants.{Nothing, Dashes, Chain, Swept, Unswept}
 use Rattle.lines.specs.Collect.{lines_of, parsed_of}
@@ -75,12 +76,12 @@ check_form {j} {k} {n} {p} {o} {r} (text.found e g) =
     (sym s.2)
     (found-form n (has_grant k p o r) g.depth s.0 s.1)
 
-line-form : (j k : Journal) (n : ℕ) (x : Parsed) (t : List ℕ) → LineAllowed j k n x t → Form n t
-line-form j k n (Run c) t e = subst (Form n) (sym e) (command_form n c (answered k c) (answered j c) (counted j c))
-line-form j k n (Ask who on right) t e = check_form e
-line-form j k n Malformed t e = subst (Form n) (sym e) (numbers-form n true 11 11)
+line-form : (j k : Journal) (n : ℕ) (x : Option Request) (t : List ℕ) → LineAllowed j k n x t → Form n t
+line-form j k n (Some (Run c)) t e = subst (Form n) (sym e) (command_form n c (answered k c) (answered j c) (counted j c))
+line-form j k n (Some (Ask who on right)) t e = check_form e
+line-form j k n None t e = subst (Form n) (sym e) (numbers-form n true 11 11)
 
-formed : {feed : Journal → Command → Journal} {j k : Journal} {n : ℕ} {xs : List Parsed} {t : List ℕ} → Allowed feed j k n xs t
+formed : {feed : Journal → Command → Journal} {j k : Journal} {n : ℕ} {xs : List (Option Request)} {t : List ℕ} → Allowed feed j k n xs t
     → Formed n (length xs) t
 formed text.last = last
 formed {j = j} {k} {n} (text.next {x = x} t a rest) = next t (line-form j k (n + 1) x t a) (formed rest)

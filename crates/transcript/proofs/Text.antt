@@ -7,6 +7,7 @@ use borrow.Author.Tests.{eqb-true, eqb-false, ne_eqb}
 use lib.ListN.{length, take}
 use lib.Seq.{take-length}
 use lib.Dec.{eqb}
+use Rattle.std.specs.Prelude.{Option, Some, None}
 use Rattle.model.specs.declared.Command.{Command}
 use Rattle.model.specs.Answers.{Found, asked, nothing, flat}
 use Rattle.model.specs.Commands.{is_sweep}
@@ -19,8 +20,8 @@ use Rattle.agreement.specs.Agreement.{Units, fresh_units, Agrees, Answers, Follo
 use Rattle.bits.proofs.Sets.{by_cases}
 use Rattle.model.proofs.Chain.{given}
 use Rattle.agreement.proofs.Agreement.{agreement}
-use Rattle.lines.specs.declared.Parsed.{Parsed}
-use Rattle.lines.specs.declared.Parsed.TheVariants.{Run, Ask, Malformed}
+use Rattle.lines.specs.declared.Request.{Request}
+use Rattle.lines.specs.declared.Request.TheVariants.{Run, Ask}
 use Rattle.output.specs.declared.reply.Said.{Said}
 use Rattle.output.specs.declared.reply.Said.TheVariants.{Number, Yes, No}
 use Rattle.output.specs.declared.reply.Tail.{Tail}
@@ -51,7 +52,7 @@ offered true m n h = ap Number (h refl)
 offered false m n h = refl
 
 command_line_lem : (j k : Journal) (u : Units) (n : ℕ) (c : Command) → Answers j k u c
-    → output_line n (reply_of u (Run c)) (via_of u (Run c)) ≡ command_line j k n c
+    → output_line n (reply_of u (Some (Run c))) (via_of u (Some (Run c))) ≡ command_line j k n c
 unfolding reply_of via_of
 command_line_lem j k u n c a =
     let l = offered (flat c) (answer_of (flat_unit lists) u.lists c) (answered k c) a.list in
@@ -60,7 +61,7 @@ command_line_lem j k u n c a =
     ∙ same_line n _ _ _ _ _ lent_buffer [] (command_tail_lem c (answered j c) (counted j c))
 
 malformed_line : (u : Units) (n : ℕ)
-    → output_line n (reply_of u Malformed) (via_of u Malformed) ≡ output_line n (reply (Number 11) (Number 11) (Number 11) Nothing) []
+    → output_line n (reply_of u None) (via_of u None) ≡ output_line n (reply (Number 11) (Number 11) (Number 11) Nothing) []
 unfolding reply_of via_of output_line tail_text
 malformed_line u n = refl
 
@@ -98,14 +99,14 @@ module _ (j k : Journal) (n p o r : ℕ) where
       (none e (λ ps b c. true≢false (sym (m.greatest ps b c).0 ∙ y))))
 
   module _ (u : Units) (a : Agrees j k u) where
-    check_reply : reply_of u (Ask p o r) ≡ checked (asked p o r) (chain_found u.chains lent_buffer p o r)
+    check_reply : reply_of u (Some (Ask p o r)) ≡ checked (asked p o r) (chain_found u.chains lent_buffer p o r)
     unfolding reply_of
     check_reply =
         λ i. reply (check_said (a.list.number p o r i) (a.list.yes p o r i)) (check_said (a.row.number p o r i) (a.row.yes p o r i))
         (check_said (a.chain.number lent_buffer refl p o r i) (chain_found u.chains lent_buffer p o r).yes)
         (check_tail (chain_found u.chains lent_buffer p o r))
 
-    check_line : CheckLine j k n p o r (output_line n (reply_of u (Ask p o r)) (via_of u (Ask p o r)))
+    check_line : CheckLine j k n p o r (output_line n (reply_of u (Some (Ask p o r))) (via_of u (Some (Ask p o r))))
     unfolding via_of
     check_line =
         by_cases (eqb (asked p o r) 0)
@@ -120,14 +121,14 @@ module _ (j k : Journal) (n p o r : ℕ) where
         (check_refused (chain_buffer u.chains lent_buffer p o r) ne))
 
 -- ---- all lines
-allowed : (feed : Journal → Command → Journal) (xs : List Parsed) (j k : Journal) (u : Units) (n : ℕ) → Follows feed j k u (commands_of xs)
+allowed : (feed : Journal → Command → Journal) (xs : List (Option Request)) (j k : Journal) (u : Units) (n : ℕ) → Follows feed j k u (commands_of xs)
     → Allowed feed j k n xs (output_from n u xs)
 unfolding output_from units_after
 allowed feed [] j k u n h = last
-allowed feed (Run c ∷ xs) j k u n h = next _ (command_line_lem j k u (n + 1) c h.1) (allowed feed xs _ _ _ (n + 1) h.2)
-allowed feed (Ask who on right ∷ xs) j k u n h =
+allowed feed (Some (Run c) ∷ xs) j k u n h = next _ (command_line_lem j k u (n + 1) c h.1) (allowed feed xs _ _ _ (n + 1) h.2)
+allowed feed (Some (Ask who on right) ∷ xs) j k u n h =
     next _ (check_line j k (n + 1) who on right u (first_agrees feed (commands_of xs) j k u h)) (allowed feed xs j k u (n + 1) h)
-allowed feed (Malformed ∷ xs) j k u n h = next _ (malformed_line u (n + 1)) (allowed feed xs j k u (n + 1) h)
+allowed feed (None ∷ xs) j k u n h = next _ (malformed_line u (n + 1)) (allowed feed xs j k u (n + 1) h)
 
 -- for every input
 pub text_agreement : (input : List ℕ) → TextAgreement (asks_of input) (output_of input)

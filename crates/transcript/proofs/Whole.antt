@@ -8,6 +8,7 @@ use native.Mathlib.Omega.{arith}
 use borrow.Author.Tests.{eqb-true, not-true}
 use lib.ListN.{length}
 use lib.Dec.{eqb}
+use Rattle.std.specs.Prelude.{Option, Some}
 use Rattle.model.specs.declared.Command.{Command}
 use Rattle.model.specs.declared.Command.TheVariants.{Create, Allow, Withdraw, Lend}
 use Rattle.bits.specs.Sets.{any, all, keep, add, tabulate}
@@ -15,8 +16,8 @@ use Rattle.bits.specs.Bits.{bit, members}
 use Rattle.model.specs.Journal.{Loan, Journal, grant, loan, same_grant, same_loan, carries, standing, LoanCarries, fresh, step, run}
 use Rattle.model.specs.Chain.{granted, lent, JournalChain}
 use Rattle.bits.proofs.Sets.{fst, snd, find}
-use Rattle.lines.specs.declared.Parsed.{Parsed}
-use Rattle.lines.specs.declared.Parsed.TheVariants.{Run, Ask}
+use Rattle.lines.specs.declared.Request.{Request}
+use Rattle.lines.specs.declared.Request.TheVariants.{Run, Ask}
 use Rattle.output.specs.declared.reply.Said.TheVariants.{Yes, No}
 use Rattle.output.specs.declared.reply.Tail.TheVariants.{Dashes, Chain}
 use Rattle.lines.specs.Bytes.{bytes}
@@ -101,17 +102,17 @@ no-chain (granted {p} {e} h) =
 no-chain (lent l s c) = no-chain c
 
 -- ---- the output line by line
-record Next (line : List ℕ) (j k : Journal) (n : ℕ) (xs : List Parsed) (t : List ℕ) : Type 0 where
+record Next (line : List ℕ) (j k : Journal) (n : ℕ) (xs : List (Option Request)) (t : List ℕ) : Type 0 where
   rest : List ℕ
   is : t ≡ line ++ rest
   then : Allowed step j k n xs rest
 
-next_command : {j k : Journal} {n : ℕ} {c : Command} {xs : List Parsed} {t : List ℕ} → Allowed step j k n (Run c ∷ xs) t
+next_command : {j k : Journal} {n : ℕ} {c : Command} {xs : List (Option Request)} {t : List ℕ} → Allowed step j k n (Some (Run c) ∷ xs) t
     → Next (command_line j k (n + 1) c) (step j c) (step k c) (n + 1) xs t
 next_command (next {rest = rest} t e r) = record { rest = rest; is = ap (λ (l : List ℕ). l ++ rest) e; then = r }
 
 -- the same journal, named otherwise
-at_journal : {i j : Journal} {n : ℕ} {xs : List Parsed} {t : List ℕ} → i ≡ j → Allowed step i i n xs t → Allowed step j j n xs t
+at_journal : {i j : Journal} {n : ℕ} {xs : List (Option Request)} {t : List ℕ} → i ≡ j → Allowed step i i n xs t → Allowed step j j n xs t
 at_journal {n = n} {xs} {t} e a = subst (λ (k : Journal). Allowed step k k n xs t) e a
 
 last_line_lem : {j k : Journal} {n : ℕ} {t : List ℕ} → Allowed step j k n [] t → t ≡ last_output n
@@ -133,9 +134,9 @@ second_check n t (refused h) = absurd (h refl)
 second_check n t (none e h) = refl
 second_check n t (found e g) = absurd (no-chain g.chain)
 
-next_check : {j k : Journal} {n p o r : ℕ} {xs : List Parsed} {t : List ℕ} (line : List ℕ)
+next_check : {j k : Journal} {n p o r : ℕ} {xs : List (Option Request)} {t : List ℕ} (line : List ℕ)
     → ((s : List ℕ) → CheckLine j k (n + 1) p o r s → s ≡ line)
-    → Allowed step j k n (Ask p o r ∷ xs) t → Next line j k (n + 1) xs t
+    → Allowed step j k n (Some (Ask p o r) ∷ xs) t → Next line j k (n + 1) xs t
 next_check line is (next {rest = rest} t e r) = record { rest = rest; is = ap (λ (l : List ℕ). l ++ rest) (is t e); then = r }
 
 after : (a : List ℕ) {b c : List ℕ} → b ≡ c → a ++ b ≡ a ++ c

@@ -1,14 +1,14 @@
 -- Demand 3 at the text interface: the output that the journal allows. No unit is named here. As in `Follows`, lists and rows are held
 -- to a journal k and the chain unit to a journal j; where one journal is meant for all, both are it. The theorem is `text_agreement`.
-use Rattle.std.specs.Prelude.{◌≡◌, false, cond, List, [], ◌∷◌, ◌++◌, ℕ, ◌+◌, length}
+use Rattle.std.specs.Prelude.{◌≡◌, Option, Some, None, false, cond, List, [], ◌∷◌, ◌++◌, ℕ, ◌+◌, length}
 use Rattle.bits.specs.Sets.{any}
 use Rattle.model.specs.declared.Command.{Command}
 use Rattle.model.specs.Answers.{asked, flat}
 use Rattle.model.specs.Journal.{Journal, answered, counted, fresh, step, has_grant, is_drop}
 use Rattle.model.specs.Chain.{Shortest, JournalChain}
 use Rattle.agreement.specs.Agreement.{flat_step}
-use Rattle.lines.specs.declared.Parsed.{Parsed}
-use Rattle.lines.specs.declared.Parsed.TheVariants.{Run, Ask, Malformed}
+use Rattle.lines.specs.declared.Request.{Request}
+use Rattle.lines.specs.declared.Request.TheVariants.{Run, Ask}
 use Rattle.output.specs.declared.reply.Said.{Said}
 use Rattle.output.specs.declared.reply.Said.TheVariants.{Number, Yes, No}
 use Rattle.output.specs.declared.reply.Tail.TheVariants.{Nothing, Dashes, Chain}
@@ -41,32 +41,32 @@ pub data CheckLine (j k : Journal) (n p o r : ℕ) : List ℕ → Type 0 where
       (output_line n (reply (grant_said k p o r) (grant_said k p o r) Yes (Chain g.depth (length g.persons))) g.persons)
 
 -- line n, for what is asked
-abbrev pub LineAllowed : Journal → Journal → ℕ → Parsed → List ℕ → Type 0
-LineAllowed j k n (Run c) text = text ≡ command_line j k n c
-LineAllowed j k n (Ask who on right) text = CheckLine j k n who on right text
-LineAllowed j k n Malformed text = text ≡ output_line n (reply (Number 11) (Number 11) (Number 11) Nothing) []
+abbrev pub LineAllowed : Journal → Journal → ℕ → Option Request → List ℕ → Type 0
+LineAllowed j k n (Some (Run c)) text = text ≡ command_line j k n c
+LineAllowed j k n (Some (Ask who on right)) text = CheckLine j k n who on right text
+LineAllowed j k n None text = text ≡ output_line n (reply (Number 11) (Number 11) (Number 11) Nothing) []
 
 -- a journal after what is asked, where `feed` feeds it
-abbrev pub journal_after : (Journal → Command → Journal) → Journal → Parsed → Journal
-journal_after feed j (Run c) = feed j c
-journal_after feed j (Ask who on right) = j
-journal_after feed j Malformed = j
+abbrev pub journal_after : (Journal → Command → Journal) → Journal → Option Request → Journal
+journal_after feed j (Some (Run c)) = feed j c
+journal_after feed j (Some (Ask who on right)) = j
+journal_after feed j None = j
 
 -- the output after n lines, by recursion over what the lines ask for
-pub data Allowed (feed : Journal → Command → Journal) : Journal → Journal → ℕ → List Parsed → List ℕ → Type 0 where
+pub data Allowed (feed : Journal → Command → Journal) : Journal → Journal → ℕ → List (Option Request) → List ℕ → Type 0 where
   last : {j k : Journal} {n : ℕ} → Allowed feed j k n [] (last_output n)
-  next : {j k : Journal} {n : ℕ} {x : Parsed} {xs : List Parsed} {rest : List ℕ} → (text : List ℕ) → LineAllowed j k (n + 1) x text
+  next : {j k : Journal} {n : ℕ} {x : Option Request} {xs : List (Option Request)} {rest : List ℕ} → (text : List ℕ) → LineAllowed j k (n + 1) x text
       → Allowed feed (journal_after step j x) (journal_after feed k x) (n + 1) xs rest → Allowed feed j k n (x ∷ xs) (text ++ rest)
 
 -- the commands among what is asked
-abbrev pub commands_of : List Parsed → List Command
+abbrev pub commands_of : List (Option Request) → List Command
 commands_of [] = []
-commands_of (Run c ∷ xs) = c ∷ commands_of xs
-commands_of (Ask who on right ∷ xs) = commands_of xs
-commands_of (Malformed ∷ xs) = commands_of xs
+commands_of (Some (Run c) ∷ xs) = c ∷ commands_of xs
+commands_of (Some (Ask who on right) ∷ xs) = commands_of xs
+commands_of (None ∷ xs) = commands_of xs
 
 -- demand 3 at the text, from fresh units on: the output for lines that ask for xs
-pub record TextAgreement (xs : List Parsed) (output : List ℕ) : Type 0 where
+pub record TextAgreement (xs : List (Option Request)) (output : List ℕ) : Type 0 where
   -- whatever the lines ask for, each `chain=` shows what the journal says, and each `list=` and `row=` what a journal says that is fed only
   -- the commands that lists and rows have
   pub every : Allowed flat_step fresh fresh 0 xs output
