@@ -75,7 +75,8 @@ seen (literal c ∷ t) s p vs out e =
     (λ q. let f : None ≡ Some out = rw q at e in let z : ◌≡◌ {A = ℕ} 0 1 = cc in absurd (omega arith))
 seen (value k ∷ t) s p vs out e = by_value (λ v n f. seen t s n (vs ++ (v ∷ [])) out f) (value_at k s p) refl e
   where
-    by_value : ((v n : ℕ) → read_by t s n (vs ++ (v ∷ [])) ≡ Some out → Seen t s n (vs ++ (v ∷ [])) out) → (r : Option (ℕ × ℕ)) → value_at k s p ≡ r
+    by_value : ((v n : ℕ) → read_by t s n (vs ++ (v ∷ [])) ≡ Some out → Seen t s n (vs ++ (v ∷ [])) out)
+        → (r : Option (ℕ × ℕ)) → value_at k s p ≡ r
         → option_and_then (λ x. read_by t s x.1 (vs ++ (x.0 ∷ []))) r ≡ Some out → Seen (value k ∷ t) s p vs out
     by_value go (Some (v, n)) q f =
         let i = go v n f in

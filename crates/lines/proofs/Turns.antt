@@ -270,7 +270,8 @@ module _ (s : List ℕ) (v : ℕ) where
     unfolding ReadAs or_else meaning
     parse_got out h = from (values_by (form_of v).pattern s) refl h ∙ sym (only_reads s v o)
       where
-        from : (x : Option (List ℕ)) → values_by (form_of v).pattern s ≡ x → ReadAs x (Some out) → meaning (form_of v) out ≡ or_else (form_of v) x None
+        from : (x : Option (List ℕ)) → values_by (form_of v).pattern s ≡ x → ReadAs x (Some out)
+            → meaning (form_of v) out ≡ or_else (form_of v) x None
         from (Some vs) q h = same-applied (count (form_of v).pattern) (form_of v).asks 0 out vs h
         from None q h = absurd h
 

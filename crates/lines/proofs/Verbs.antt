@@ -109,7 +109,8 @@ only_by s v a b e h =
 OnlyOf : List Form → List ℕ → ℕ → Type 0
 OnlyOf fs s v = (u : ℕ) (vs : List ℕ) → u < length fs → values_by (get_or fs u no_form).pattern s ≡ Some vs → u ≡ v
 
-none_reads : (fs : List Form) (s : List ℕ) → ((u : ℕ) (vs : List ℕ) → u < length fs → values_by (get_or fs u no_form).pattern s ≡ Some vs → ⊥)
+none_reads : (fs : List Form) (s : List ℕ)
+    → ((u : ℕ) (vs : List ℕ) → u < length fs → values_by (get_or fs u no_form).pattern s ≡ Some vs → ⊥)
     → parse_by fs s ≡ None
 unfolding or_else
 none_reads [] s h = refl

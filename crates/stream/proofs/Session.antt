@@ -79,8 +79,8 @@ parts_same buffer big parts =
     parts-pieces (fresh_session buffer) parts ∙ sym (collected-output 0 _ _ (pieces parts)) ∙ chunks_same buffer big parts
 
 -- ---- a line that ended
-pub line_runs : (u u' : Units) (x : Option Request) (n : ℕ) (out out' : List ℕ) (at r : ℕ) (s : Reply) (via : List ℕ) → room (length out) at ≡ true
-    → Replies u x s via u' → Puts out at (output_line n s via) r out' → Runs u x n out at r u' out'
+pub line_runs : (u u' : Units) (x : Option Request) (n : ℕ) (out out' : List ℕ) (at r : ℕ) (s : Reply) (via : List ℕ)
+    → room (length out) at ≡ true → Replies u x s via u' → Puts out at (output_line n s via) r out' → Runs u x n out at r u' out'
 line_runs u u' x n out out' at r s via e h p = record {
   units = h.units;
   output = wrote_is (ap₂ (output_line n) h.reply h.buffer) (record { place = rw e at p.place; buffer = rw e at p.buffer });

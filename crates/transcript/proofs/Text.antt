@@ -121,8 +121,8 @@ module _ (j k : Journal) (n p o r : ℕ) where
         (check_refused (chain_buffer u.chains lent_buffer p o r) ne))
 
 -- ---- all lines
-allowed : (feed : Journal → Command → Journal) (xs : List (Option Request)) (j k : Journal) (u : Units) (n : ℕ) → Follows feed j k u (commands_of xs)
-    → Allowed feed j k n xs (output_from n u xs)
+allowed : (feed : Journal → Command → Journal) (xs : List (Option Request)) (j k : Journal) (u : Units) (n : ℕ)
+    → Follows feed j k u (commands_of xs) → Allowed feed j k n xs (output_from n u xs)
 unfolding output_from units_after
 allowed feed [] j k u n h = last
 allowed feed (Some (Run c) ∷ xs) j k u n h = next _ (command_line_lem j k u (n + 1) c h.1) (allowed feed xs _ _ _ (n + 1) h.2)

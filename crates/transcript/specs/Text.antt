@@ -55,8 +55,9 @@ journal_after feed j None = j
 -- the output after n lines, by recursion over what the lines ask for
 pub data Allowed (feed : Journal → Command → Journal) : Journal → Journal → ℕ → List (Option Request) → List ℕ → Type 0 where
   last : {j k : Journal} {n : ℕ} → Allowed feed j k n [] (last_output n)
-  next : {j k : Journal} {n : ℕ} {x : Option Request} {xs : List (Option Request)} {rest : List ℕ} → (text : List ℕ) → LineAllowed j k (n + 1) x text
-      → Allowed feed (journal_after step j x) (journal_after feed k x) (n + 1) xs rest → Allowed feed j k n (x ∷ xs) (text ++ rest)
+  next : {j k : Journal} {n : ℕ} {x : Option Request} {xs : List (Option Request)} {rest : List ℕ} → (text : List ℕ)
+      → LineAllowed j k (n + 1) x text → Allowed feed (journal_after step j x) (journal_after feed k x) (n + 1) xs rest
+      → Allowed feed j k n (x ∷ xs) (text ++ rest)
 
 -- the commands among what is asked
 abbrev pub commands_of : List (Option Request) → List Command
