@@ -8,7 +8,7 @@ use native.Mathlib.Nat.{zero-add}
 use native.Mathlib.Numerals.{add-one}
 use native.Mathlib.Omega.{arith}
 use borrow.Author.Tests.{eqb-true, eq-eqb, ne_eqb}
-use lib.ListN.{length, get_or, drop, take, set, replicate, length-append, length-map, length-set}
+use lib.ListN.{length, get_or, drop, take, set, replicate, length-append, length-map}
 use lib.Seq.{drop-set-lt, set-get_or, set_at, take-suc-set, append_snoc}
 use lib.Dec.{eqb}
 use Rattle.bits.specs.Sets.{any, all, keep}
@@ -254,7 +254,6 @@ place-words s k w h e = ap (λ (x : ℕ). placed s k x h) (e ∙ sym (word_is (g
 
 -- ---- a pass over every place: f of the tickets before place k, the others as they were
 pub record Swept (f : Ticket → Ticket) (s x : List ℕ) (k : ℕ) : Type 0 where
-  pub size : length x ≡ ticket_words
   pub done : List Ticket
   pub many : length done ≡ k
   pub parts : (machine_of s).records ≡ done ++ from s k
@@ -264,7 +263,6 @@ pub record Swept (f : Ticket → Ticket) (s x : List ℕ) (k : ℕ) : Type 0 whe
 module _ (f : Ticket → Ticket) (s : List ℕ) (size : length s ≡ ticket_words) where
   pub swept-start : Swept f s s 0
   swept-start = record {
-    size = size;
     done = [];
     many = refl;
     parts = from_zero s;
@@ -272,18 +270,17 @@ module _ (f : Ticket → Ticket) (s : List ℕ) (size : length s ≡ ticket_word
     rest = refl;
   }
 
-  pub swept-next : (x : List ℕ) (k : ℕ) → k < 1024 → (v : Swept f s x k) (y : List ℕ) → y ≡ placed_ticket x k (f (ticket_at x k))
+  pub swept-next : (x : List ℕ) (k : ℕ) → length x ≡ ticket_words → k < 1024 → (v : Swept f s x k) (y : List ℕ) → y ≡ placed_ticket x k (f (ticket_at x k))
       → Swept f s y (k + 1)
   unfolding from
-  swept-next x k less v y e =
+  swept-next x k long less v y e =
       let t = ticket_at s k in
       let here = next_place s k size less in
-      let both : ticket_at x k ∷ from x (k + 1) ≡ t ∷ from s (k + 1) = sym (next_place x k v.size less) ∙ v.rest ∙ here in
+      let both : ticket_at x k ∷ from x (k + 1) ≡ t ∷ from s (k + 1) = sym (next_place x k long less) ∙ v.rest ∙ here in
       let same : ticket_at x k ≡ t = ap (λ (ts : List Ticket). get_or ts 0 vacant) both in
       let after : from x (k + 1) ≡ from s (k + 1) = ap (λ (ts : List Ticket). drop 1 ts) both in
       let moved : y ≡ placed_ticket x k (f t) = e ∙ ap (λ (u : Ticket). placed_ticket x k (f u)) same in
       record {
-        size = ap length e ∙ length-set (set x (2 + 2 * k) _) (3 + 2 * k) _ ∙ length-set x (2 + 2 * k) _ ∙ v.size;
         done = v.done ++ (t ∷ []);
         many = length-append v.done (t ∷ []) ∙ ap (λ n. n + 1) v.many;
         parts = v.parts ∙ ap (λ ts. v.done ++ ts) here ∙ sym (append_snoc v.done t (from s (k + 1)));

@@ -103,7 +103,7 @@ fn is_sound(w: u64, h: u64, live: u64, next: u64) -> bool
 // The numbers of the live tickets, in the order of their places, into the buffer, and how many there are; none where a place is not in
 // order. A place is all zero, which most are; or it has a holder, and its ticket may stand. All places are looked at: most images are in
 // order, and a way out of the loop makes it slower.
-fn gather(image: &[u64; Tickets::WORDS], buffer: &mut [u32; 1024]) -> Option<usize>
+fn gather(image: &[u64; Tickets::WORDS], buffer: &mut [u32; Tickets::PLACES]) -> Option<usize>
     ensures { Gathered image.now buffer.new result }
 {
     let live = image[0];
@@ -128,7 +128,7 @@ fn records_ok(image: &[u64; Tickets::WORDS]) -> bool
     ensures { result ≡ all (record_ok (get_or image.now 0 0) (get_or image.now 1 0))
         (machine_of image.now).records && differ (machine_of image.now).records }
 {
-    let mut buffer = [0u32; 1024];
+    let mut buffer = [0u32; Tickets::PLACES];
     let Some(count) = gather(image, &mut buffer) else {
         return false;
     };

@@ -13,7 +13,7 @@ loop-k-init c =
 
 pub loop-k-preserved : goal.loop-k-preserved
 loop-k-preserved c =
-    swept-next (without c.args.on.0) c.args.image.now c.told-image _ c.loop-k.k (search rules) c.loop-k.invariant _ c.drop_at.ensures
+    swept-next (without c.args.on.0) c.args.image.now c.told-image _ c.loop-k.k (search rules) (search rules) c.loop-k.invariant _ c.drop_at.ensures
 
 pub returns : goal.returns
 unfolding machine_of
