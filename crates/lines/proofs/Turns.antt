@@ -22,8 +22,8 @@ use Rattle.lines.specs.Grammar.{Asks, applied, form_of, meaning}
 use Rattle.lines.specs.Line.{starts_with, value_at, number_at, set_at, read_by, values_by, or_else, parse_line}
 use Rattle.lines.specs.declared.Key.{Key}
 use Rattle.lines.specs.declared.Key.TheVariants.{By, Who, To, Set, On, Right, Last, Now, Depth}
-use Rattle.lines.specs.declared.Verb.{Verb}
-use Rattle.lines.specs.declared.Verb.TheVariants.{Create, Delete, Allow, AllowSet, Withdraw, Drop, Lend, Recall, Shift, Sweep, Check}
+use Rattle.lines.specs.declared.Action.{Action}
+use Rattle.lines.specs.declared.Action.TheVariants.{Create, Delete, Allow, AllowSet, Withdraw, Drop, Lend, Recall, Shift, Sweep, Check}
 use Rattle.lines.specs.Reader.{after_at, field_at, key_text, key_kind, key_at, literals, keys_parts, parts_of, place, word_of, keys_of, most, ReadAs, Only}
 use Rattle.lines.proofs.Line.{drop-next, drop-end}
 use Rattle.lines.proofs.Patterns.{seen}
@@ -175,19 +175,19 @@ module _ {w : List ℕ} {ks : List Key} {s vs : List ℕ} {p k : ℕ} (a : At w 
         }
 
 -- ---- the whole line
--- the pattern of a verb's word and keys is the one that the grammar shows, and has room
-pub verb_parts : (v : Verb) → (parts_of (word_of v) (keys_of v) ≡ (form_of (place v)).pattern) × (length (keys_of v) ≤ most)
-verb_parts Create = (refl, omega arith)
-verb_parts Delete = (refl, omega arith)
-verb_parts Allow = (refl, omega arith)
-verb_parts AllowSet = (refl, omega arith)
-verb_parts Withdraw = (refl, omega arith)
-verb_parts Drop = (refl, omega arith)
-verb_parts Lend = (refl, omega arith)
-verb_parts Recall = (refl, omega arith)
-verb_parts Shift = (refl, omega arith)
-verb_parts Sweep = (refl, omega arith)
-verb_parts Check = (refl, omega arith)
+-- the pattern of an action's word and keys is the one that the grammar shows, and has room
+pub action_parts : (v : Action) → (parts_of (word_of v) (keys_of v) ≡ (form_of (place v)).pattern) × (length (keys_of v) ≤ most)
+action_parts Create = (refl, omega arith)
+action_parts Delete = (refl, omega arith)
+action_parts Allow = (refl, omega arith)
+action_parts AllowSet = (refl, omega arith)
+action_parts Withdraw = (refl, omega arith)
+action_parts Drop = (refl, omega arith)
+action_parts Lend = (refl, omega arith)
+action_parts Recall = (refl, omega arith)
+action_parts Shift = (refl, omega arith)
+action_parts Sweep = (refl, omega arith)
+action_parts Check = (refl, omega arith)
 
 -- a form asks for the same by values that are the same
 same-applied : (n : ℕ) (f : Asks n) (k : ℕ) (out vs : List ℕ) → ((i : ℕ) → get_or out i 0 ≡ get_or vs i 0)
@@ -247,7 +247,7 @@ narrow_applied (value set ∷ t) f i vs h =
     let b = within-next set t vs i h in
     narrow_applied t (f (get_or vs i 0)) (suc i) vs b.1
 
-pub narrow_meaning : (w : Verb) (ns vs : List ℕ) {v : Verb} → v ≡ w → ns ≡ map (λ v. v % 4294967296) vs
+pub narrow_meaning : (w : Action) (ns vs : List ℕ) {v : Action} → v ≡ w → ns ≡ map (λ v. v % 4294967296) vs
     → within (form_of (place v)).pattern vs ≡ true
     → narrowed (form_of (place w)).pattern (form_of (place w)).asks 0 ns vs ≡ meaning (form_of (place v)) vs
 unfolding meaning

@@ -2,8 +2,8 @@
 use Rattle.std.specs.Prelude.{◌≡◌, Option, Some, None, cond, List, [], ◌∷◌, ℕ, ◌+◌, ◌<◌, length, drop, get_or}
 use Rattle.lines.specs.declared.Key.{Key}
 use Rattle.lines.specs.declared.Key.TheVariants.{By, Who, To, Set, On, Right, Last, Now, Depth}
-use Rattle.lines.specs.declared.Verb.{Verb}
-use Rattle.lines.specs.declared.Verb.TheVariants.{Create, Delete, Allow, AllowSet, Withdraw, Drop, Lend, Recall, Shift, Sweep, Check}
+use Rattle.lines.specs.declared.Action.{Action}
+use Rattle.lines.specs.declared.Action.TheVariants.{Create, Delete, Allow, AllowSet, Withdraw, Drop, Lend, Recall, Shift, Sweep, Check}
 use Rattle.lines.specs.Bytes.{bytes}
 use Rattle.lines.specs.Grammar.{Kind, number, set, Part, literal, value, forms, form_of}
 use Rattle.lines.specs.Line.{starts_with, hexadecimal, hex_value, value_at, values_by}
@@ -64,7 +64,7 @@ abbrev pub parts_of : List ℕ → List Key → List Part
 parts_of w ks = literals (bytes "do=") (literals w (keys_parts ks))
 
 -- the place of a verb in the grammar's list
-abbrev pub place : Verb → ℕ
+abbrev pub place : Action → ℕ
 place Create = 0
 place Delete = 1
 place Allow = 2
@@ -78,7 +78,7 @@ place Sweep = 9
 place Check = 10
 
 -- its word
-abbrev pub word_of : Verb → List ℕ
+abbrev pub word_of : Action → List ℕ
 word_of Create = bytes "create"
 word_of Delete = bytes "delete"
 word_of Allow = bytes "allow"
@@ -92,7 +92,7 @@ word_of Sweep = bytes "sweep"
 word_of Check = bytes "check"
 
 -- its keys
-abbrev pub keys_of : Verb → List Key
+abbrev pub keys_of : Action → List Key
 keys_of Create = By ∷ On ∷ []
 keys_of Delete = By ∷ On ∷ []
 keys_of Allow = By ∷ To ∷ On ∷ Right ∷ Depth ∷ []

@@ -144,7 +144,7 @@ impl Key {
 
 // What a line does, in the order of the grammar's list.
 #[derive(Clone, Copy)]
-enum Verb {
+enum Action {
     Create,
     Delete,
     Allow,
@@ -158,24 +158,24 @@ enum Verb {
     Check,
 }
 
-impl Verb {
-    // The only verb that can have this line: bytes 5 and 9 tell the verbs apart.
-    fn of(s: &[u8]) -> Verb
+impl Action {
+    // The only one that can have this line: bytes 5 and 9 tell them apart.
+    fn of(s: &[u8]) -> Action
         ensures { Only s.now (place result) }
     {
         let sum = u32::from(byte(s, 5)) + u32::from(byte(s, 9));
         match sum % 64 {
-            12 => Verb::Delete,
-            14 => Verb::Allow,
-            17 => Verb::AllowSet,
-            21 => Verb::Withdraw,
-            40 => Verb::Drop,
-            39 => Verb::Lend,
-            3 => Verb::Recall,
-            11 => Verb::Shift,
-            7 => Verb::Sweep,
-            28 => Verb::Check,
-            _ => Verb::Create,
+            12 => Action::Delete,
+            14 => Action::Allow,
+            17 => Action::AllowSet,
+            21 => Action::Withdraw,
+            40 => Action::Drop,
+            39 => Action::Lend,
+            3 => Action::Recall,
+            11 => Action::Shift,
+            7 => Action::Sweep,
+            28 => Action::Check,
+            _ => Action::Create,
         }
     }
 
@@ -183,17 +183,17 @@ impl Verb {
         ensures { result.now ≡ word_of self }
     {
         match self {
-            Verb::Create => b"create",
-            Verb::Delete => b"delete",
-            Verb::Allow => b"allow",
-            Verb::AllowSet => b"allowset",
-            Verb::Withdraw => b"withdraw",
-            Verb::Drop => b"drop",
-            Verb::Lend => b"lend",
-            Verb::Recall => b"recall",
-            Verb::Shift => b"shift",
-            Verb::Sweep => b"sweep",
-            Verb::Check => b"check",
+            Action::Create => b"create",
+            Action::Delete => b"delete",
+            Action::Allow => b"allow",
+            Action::AllowSet => b"allowset",
+            Action::Withdraw => b"withdraw",
+            Action::Drop => b"drop",
+            Action::Lend => b"lend",
+            Action::Recall => b"recall",
+            Action::Shift => b"shift",
+            Action::Sweep => b"sweep",
+            Action::Check => b"check",
         }
     }
 
@@ -202,11 +202,11 @@ impl Verb {
         ensures { result.now ≡ keys_of self }
     {
         match self {
-            Verb::Create | Verb::Delete => &[Key::By, Key::On],
-            Verb::Allow | Verb::Drop => &[Key::By, Key::To, Key::On, Key::Right, Key::Depth],
-            Verb::AllowSet => &[Key::By, Key::Set, Key::On, Key::Right, Key::Depth],
-            Verb::Withdraw => &[Key::By, Key::To, Key::On, Key::Right],
-            Verb::Lend | Verb::Recall => &[
+            Action::Create | Action::Delete => &[Key::By, Key::On],
+            Action::Allow | Action::Drop => &[Key::By, Key::To, Key::On, Key::Right, Key::Depth],
+            Action::AllowSet => &[Key::By, Key::Set, Key::On, Key::Right, Key::Depth],
+            Action::Withdraw => &[Key::By, Key::To, Key::On, Key::Right],
+            Action::Lend | Action::Recall => &[
                 Key::By,
                 Key::To,
                 Key::On,
@@ -214,9 +214,9 @@ impl Verb {
                 Key::Depth,
                 Key::Last,
             ],
-            Verb::Shift => &[Key::By, Key::Now],
-            Verb::Sweep => &[Key::By],
-            Verb::Check => &[Key::Who, Key::On, Key::Right],
+            Action::Shift => &[Key::By, Key::Now],
+            Action::Sweep => &[Key::By],
+            Action::Check => &[Key::Who, Key::On, Key::Right],
         }
     }
 }
@@ -224,13 +224,13 @@ impl Verb {
 // The most values that a line has.
 const MOST: usize = 6;
 
-// The values of a line of a verb in their order, and 0 after them.
-fn values_of(s: &[u8], verb: Verb) -> Option<[u64; MOST]>
-    ensures { ReadAs (values_by (form_of (place verb)).pattern s.now) result }
+// The values of a line in their order, and 0 after them.
+fn values_of(s: &[u8], action: Action) -> Option<[u64; MOST]>
+    ensures { ReadAs (values_by (form_of (place action)).pattern s.now) result }
 {
-    let mut at = after(s, after(s, 0, b"do=")?, verb.word())?;
+    let mut at = after(s, after(s, 0, b"do=")?, action.word())?;
     let mut values = [0; MOST];
-    for (i, key) in verb.keys().iter().enumerate() {
+    for (i, key) in action.keys().iter().enumerate() {
         let (v, next) = key.read(s, at)?;
         values[i] = v;
         at = next;
@@ -245,7 +245,7 @@ pub enum Request {
     Ask { who: u32, on: u32, right: u32 },
 }
 
-// What the verbs with more than two fields ask for: with these literals in its arms `meaning_of` would have over 40 lines.
+// What the lines with more than two fields ask for: with these literals in its arms `meaning_of` would have over 40 lines.
 fn allow(by: u32, to: u32, on: u32, right: u32, depth: u32) -> Request
     ensures { result ≡ Run (Allow by to on right depth) }
 {
@@ -327,24 +327,24 @@ fn lowest(values: [u64; MOST]) -> [u32; MOST]
     values.map(|v| (v % 4294967296) as u32)
 }
 
-// What the line of a verb with these values asks for.
-fn meaning_of(verb: Verb, values: [u64; MOST]) -> Request
-    requires { within (form_of (place verb)).pattern values ≡ true }
-    ensures { Some result ≡ meaning (form_of (place verb)) values }
+// What a line with these values asks for.
+fn meaning_of(action: Action, values: [u64; MOST]) -> Request
+    requires { within (form_of (place action)).pattern values ≡ true }
+    ensures { Some result ≡ meaning (form_of (place action)) values }
 {
     let [a, b, c, d, e, f] = lowest(values);
-    match verb {
-        Verb::Create => Request::Run(Command::Create { by: a, on: b }),
-        Verb::Delete => Request::Run(Command::Delete { by: a, on: b }),
-        Verb::Allow => allow(a, b, c, d, e),
-        Verb::AllowSet => allow_set(a, values[1], c, d, e),
-        Verb::Withdraw => withdraw(a, b, c, d),
-        Verb::Drop => drop_depth(a, b, c, d, e),
-        Verb::Lend => lend(a, b, c, d, e, f),
-        Verb::Recall => recall(a, b, c, d, e, f),
-        Verb::Shift => Request::Run(Command::Shift { by: a, now: b }),
-        Verb::Sweep => Request::Run(Command::Sweep { by: a }),
-        Verb::Check => ask(a, b, c),
+    match action {
+        Action::Create => Request::Run(Command::Create { by: a, on: b }),
+        Action::Delete => Request::Run(Command::Delete { by: a, on: b }),
+        Action::Allow => allow(a, b, c, d, e),
+        Action::AllowSet => allow_set(a, values[1], c, d, e),
+        Action::Withdraw => withdraw(a, b, c, d),
+        Action::Drop => drop_depth(a, b, c, d, e),
+        Action::Lend => lend(a, b, c, d, e, f),
+        Action::Recall => recall(a, b, c, d, e, f),
+        Action::Shift => Request::Run(Command::Shift { by: a, now: b }),
+        Action::Sweep => Request::Run(Command::Sweep { by: a }),
+        Action::Check => ask(a, b, c),
     }
 }
 
@@ -359,7 +359,7 @@ fn byte(s: &[u8], at: usize) -> u8
 pub fn parse(line: &[u8]) -> Option<Request>
     ensures { result ≡ parse_line line.now }
 {
-    let verb = Verb::of(line);
-    let values = values_of(line, verb)?;
-    Some(meaning_of(verb, values))
+    let action = Action::of(line);
+    let values = values_of(line, action)?;
+    Some(meaning_of(action, values))
 }

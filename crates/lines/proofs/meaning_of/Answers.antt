@@ -2,7 +2,7 @@
 -- nothing (`narrow_meaning`).
 use mathlib.Core.Path.{ap, ◌∙◌}
 use Rattle.std.specs.Prelude.{Some}
-use Rattle.lines.specs.declared.Verb.TheVariants.{Create, Delete, Allow, AllowSet, Withdraw, Drop, Lend, Recall, Shift, Sweep, Check}
+use Rattle.lines.specs.declared.Action.TheVariants.{Create, Delete, Allow, AllowSet, Withdraw, Drop, Lend, Recall, Shift, Sweep, Check}
 use Rattle.lines.proofs.Turns.{narrow_meaning}
 use Rattle.lines.proofs.meaning_of.Goals as goal
 

@@ -4,7 +4,7 @@ use Prim.Native.Nat.{◌+◌, ◌%◌}
 use mathlib.Core.Path.{refl, ◌∙◌}
 use borrow.Author.Tests.{ne_eqb}
 use Rattle.lines.proofs.Verbs.{only_by}
-use Rattle.lines.proofs.Verb.of.Goals as goal
+use Rattle.lines.proofs.Action.of.Goals as goal
 
 pub returns-in-12 : goal.returns-in-12
 returns-in-12 c = only_by _ 1 (c.from.ensures ∙ c.byte.ensures) (c.from-2.ensures ∙ c.byte-2.ensures) c.in-12.is refl
