@@ -26,15 +26,14 @@ use Rattle.chains.specs.Ready.{Accepted, Ending, without_loans}
 use Rattle.chains.proofs.Arms.{loans-ordered, stepped, kept_loans}
 
 -- the limits, as tests
-pub within : {gs t : List ℕ} {p o r : ℕ} → Ending gs t p o r → items p o && right_depth r 0 ≡ true
-within {gs} {t} {p} {o} {r} k =
+pub within : {t : List ℕ} {p o r : ℕ} → Ending t p o r → items p o && right_depth r 0 ≡ true
+within {t} {p} {o} {r} k =
     both (both (le-leb p 63 (omega (arith, k.person))) (le-leb o 63 (omega (arith, k.item)))) (both (le-leb r 7 (omega (arith, k.right))) refl)
 
 -- what an accepted command finds there
-pub ending : (g t : List ℕ) (a : Arguments) → Accepted (images g t) a → Ending g t a.to a.on a.right
-ending g t a k = record {
-  grants = k.ready.grants;
-  loans = loans-ordered g t a k;
+pub ending : (g t : List ℕ) (a : Arguments) → length t ≡ loan_words → Accepted (images g t) a → Ending t a.to a.on a.right
+ending g t a l k = record {
+  loans = loans-ordered g t a l k;
   person = omega (arith, k.ready.ranged.to);
   item = omega (arith, k.ready.ranged.on);
   right = omega (arith, k.ready.ranged.right);

@@ -3,8 +3,10 @@ use mathlib.Core.Path.{◌≡◌, refl, ap, ◌∙◌}
 use mathlib.Core.Bool.{Bool, true, false, not, ◌&&◌, cond}
 use mathlib.Core.List.{List, []}
 use Prim.Native.Nat.{ℕ, ◌%◌, ◌≤◌}
+use mathlib.Core.Logic.{by_cases}
+use native.Mathlib.Decide.{ℕ_discrete}
 use native.Mathlib.Omega.{arith}
-use borrow.Author.Tests.{eq-eqb, ne_eqb, eqb-true, leb-true}
+use borrow.Author.Tests.{eq-eqb, ne_eqb, leb-true}
 use lib.ListN.{length, get_or}
 use lib.Dec.{eqb, leb, ltb}
 use Rattle.model.specs.declared.Facts.{Facts}
@@ -37,35 +39,38 @@ use Rattle.chains.specs.InShape.{InShape}
 use Rattle.chains.specs.Ready.{Ready}
 
 -- ---- numbers 1 and 2
-module _ (g t : List ℕ) (room : Bool) where
-  pub order-grants : (length g ≡ grant_cells → ⊥) → 1 ≡ chain_guarded (images g t) room 0
-  order-grants h = rw (ne_eqb (length g) grant_cells h)
+-- a length that is wrong
+pub wrong_length : (s : Images) (room : Bool) → (length s.grants ≡ grant_cells → length s.loans ≡ loan_words → room ≡ true → ⊥)
+    → 1 ≡ chain_guarded s room 0
+wrong_length s room none =
+    by_cases (ℕ_discrete (length s.grants) grant_cells)
+    (λ g. by_cases (ℕ_discrete (length s.loans) loan_words)
+    (λ t. rw (eq-eqb (length s.grants) grant_cells g, eq-eqb (length s.loans) loan_words t, false-if room (none g t)))
+    (λ t. rw (eq-eqb (length s.grants) grant_cells g, ne_eqb (length s.loans) loan_words t)))
+    (λ g. rw (ne_eqb (length s.grants) grant_cells g))
+  where
+    false-if : (b : Bool) → (b ≡ true → ⊥) → b ≡ false
+    false-if true h = absurd (h refl)
+    false-if false h = refl
 
-  module _ (l : length g ≡ grant_cells) where
-    pub order-loans : (length t ≡ loan_words → ⊥) → 1 ≡ chain_guarded (images g t) room 0
-    order-loans h = rw (eq-eqb (length g) grant_cells l, ne_eqb (length t) loan_words h)
+module _ (g t : List ℕ) (l : length g ≡ grant_cells) (k : length t ≡ loan_words) where
+  pub order_named : is_in_order grant_bytes g ≡ false → 2 ≡ chain_guarded (images g t) true 0
+  order_named o = rw (eq-eqb (length g) grant_cells l, eq-eqb (length t) loan_words k, o)
 
-    module _ (k : length t ≡ loan_words) where
-      pub order-room : room ≡ false → 1 ≡ chain_guarded (images g t) room 0
-      order-room e = rw (eq-eqb (length g) grant_cells l, eq-eqb (length t) loan_words k, e)
+  module _ (o : is_in_order grant_bytes g ≡ true) (m : List ℕ) (q : m ≡ masks_of g) (b : Bool)
+      (h : b ≡ (eqb (length t) loan_words && loans_in_order (unmasked m) t)) where
+    -- the masks tell of the live items as the image does
+    by-live : b ≡ loans_in_order (live_in grant_bytes g) t
+    unfolding masks_of grant_bytes
+    by-live =
+        h ∙ rw (eq-eqb (length t) loan_words k)
+        (masked (live_in grant_bytes g) m t (λ i z. ap (λ (x : List ℕ). get_or x i 0) q ∙ get_d_tabulate 64 _ i 0 z))
 
-      pub order_named : room ≡ true → is_in_order grant_bytes g ≡ false → 2 ≡ chain_guarded (images g t) room 0
-      order_named e o = rw (eq-eqb (length g) grant_cells l, eq-eqb (length t) loan_words k, e, o)
+    pub order-lent : b ≡ false → 2 ≡ chain_guarded (images g t) true 0
+    order-lent z = rw (eq-eqb (length g) grant_cells l, eq-eqb (length t) loan_words k, o, ← by-live, z)
 
-      module _ (e : room ≡ true) (o : is_in_order grant_bytes g ≡ true) (m : List ℕ) (q : m ≡ masks_of g) (b : Bool)
-          (h : b ≡ (eqb (length t) loan_words && loans_in_order (unmasked m) t)) where
-        -- the masks tell of the live items as the image does
-        by-live : b ≡ loans_in_order (live_in grant_bytes g) t
-        unfolding masks_of grant_bytes
-        by-live =
-            h ∙ rw (eq-eqb (length t) loan_words k)
-            (masked (live_in grant_bytes g) m t (λ i z. ap (λ (x : List ℕ). get_or x i 0) q ∙ get_d_tabulate 64 _ i 0 z))
-
-        pub order-lent : b ≡ false → 2 ≡ chain_guarded (images g t) room 0
-        order-lent z = rw (eq-eqb (length g) grant_cells l, eq-eqb (length t) loan_words k, e, o, ← by-live, z)
-
-        pub order_done : b ≡ true → 0 ≡ chain_guarded (images g t) room 0
-        order_done z = rw (eq-eqb (length g) grant_cells l, eq-eqb (length t) loan_words k, e, o, ← by-live, z)
+    pub order_done : b ≡ true → 0 ≡ chain_guarded (images g t) true 0
+    order_done z = rw (eq-eqb (length g) grant_cells l, eq-eqb (length t) loan_words k, o, ← by-live, z)
 
 pub inspected : (s : Images) (r : Result ⊤ Refusal) → number_of r ≡ chain_guarded s true 0 → ChainInspects s r s
 inspected s r e = (numbered r _ e, refl)
@@ -114,7 +119,7 @@ pub ready : (s : Images) (c : Command) (order : Result ⊤ Refusal) → number_o
 ready s c order e t h =
     let m = command_admitted chain_unit s c order e (Ok t) h in
     let p = chain_readable s true m.0 in
-    record { grants = p.0; loans = p.1; ordered = p.3; ranged = m.1 }
+    record { ordered = p.3; ranged = m.1 }
 
 -- ---- a check
 -- images in order are at a shift within its limit, and hold at most 1,024 loans, which rise
@@ -128,21 +133,18 @@ counted s e =
     let c : rising (used s.loans) ≡ true = search (fst, snd) in
     (leb-true _ _ a, leb-true _ _ b, c)
 
-pub in_shape : (s : Images) (buffer : List ℕ) (p o r : ℕ) (order : Result ⊤ Refusal) → number_of order ≡ chain_guarded s (eqb (length buffer) 8) 0
+pub in_shape : (s : Images) (p o r : ℕ) (order : Result ⊤ Refusal) → number_of order ≡ chain_guarded s true 0
     → (q : Question) → Ok q ≡ check_admission order p o r
-    → InShape s.grants s.loans q.who.0 q.on.0 q.right.0 (length buffer)
-in_shape s buffer p o r order e q h =
-    let m = check_admitted (chain_sized s (eqb (length buffer) 8)) (chain_in_order s) p o r order e (Ok q) h in
-    let k = chain_readable s (eqb (length buffer) 8) m.0 in
+    → InShape s.loans q.who.0 q.on.0 q.right.0
+in_shape s p o r order e q h =
+    let m = check_admitted (chain_sized s true) (chain_in_order s) p o r order e (Ok q) h in
+    let k = chain_readable s true m.0 in
     let i = asked-ranged p o r m.2 in
     record {
-      grants = k.0;
-      loans = k.1;
       shift = (counted s k.3).0;
       rises = (counted s k.3).2;
       count = (counted s k.3).1;
       person = rw m.3 (omega arith);
       item = rw m.3 (omega arith);
       rights = rw m.3 (omega arith);
-      buffer = eqb-true _ _ k.2;
     }

@@ -1,18 +1,16 @@
 -- What a command finds past numbers 1 to 3: images that were judged, and arguments within their limits.
-use Rattle.std.specs.Prelude.{◌≡◌, Bool, true, not, ◌&&◌, List, ℕ, ◌<◌, length}
+use Rattle.std.specs.Prelude.{◌≡◌, Bool, true, not, ◌&&◌, List, ℕ, ◌<◌}
 use Rattle.model.specs.declared.Arguments.{Arguments}
 use Rattle.model.specs.Commands.{Ranged}
 use Rattle.model.specs.Answers.{table}
-use Rattle.layouts.specs.Layouts.{grant_bytes, grant_cells, deleted}
-use Rattle.delegation.specs.Loans.{loan_words, word_names, word_from, loans_kept}
+use Rattle.layouts.specs.Layouts.{grant_bytes, deleted}
+use Rattle.delegation.specs.Loans.{word_names, word_from, loans_kept}
 use Rattle.delegation.specs.Images.{Images}
 use Rattle.delegation.specs.ChainUnit.{chain_in_order, chain_facts}
 use Rattle.loans.specs.Words.{Ordered}
 
--- both images have their lengths and are in order, and every argument is within its limit
+-- both images are in order, and every argument is within its limit
 pub record Ready (s : Images) (a : Arguments) : Type 0 where
-  pub grants : length s.grants ≡ grant_cells
-  pub loans : length s.loans ≡ loan_words
   pub ordered : chain_in_order s ≡ true
   pub ranged : Ranged a
 
@@ -25,10 +23,8 @@ pub record Accepted (s : Images) (a : Arguments) : Type 0 where
 abbrev pub without_item : Images → ℕ → Images
 without_item s i = record { grants = deleted grant_bytes s.grants i; loans = loans_kept (λ w. not (word_names i w)) s.loans }
 
--- where a person's grants on an item and right end: the grants have their length, the loans are in order, and the numbers are within their
--- limits
-pub record Ending (gs t : List ℕ) (p o r : ℕ) : Type 0 where
-  pub grants : length gs ≡ grant_cells
+-- where a person's grants on an item and right end: the loans are in order, and the numbers are within their limits
+pub record Ending (t : List ℕ) (p o r : ℕ) : Type 0 where
   pub loans : Ordered t
   pub person : p < 64
   pub item : o < 64

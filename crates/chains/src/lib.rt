@@ -30,6 +30,11 @@ use model::{
 // The bytes of a chain buffer.
 const PERSONS: usize = 8;
 
+// The images, where they have their lengths.
+type GrantBytes = [u8; Grants::BYTES];
+
+type LoanWords = [u32; Loans::WORDS];
+
 // Where the grants of the first item and right begin, after the live set.
 const ROLL: usize = 8;
 
@@ -59,19 +64,10 @@ pub fn fresh(grants: &mut [u8], loans: &mut [u32]) -> Result<(), Refusal>
     Ok(())
 }
 
-// Numbers 1 and 2; room: every other lent buffer has its length.
-fn order(grants: &[u8], loans: &[u32], room: bool) -> Result<(), Refusal>
-    ensures { number_of result ≡ chain_guarded (images grants.now loans.now) room 0 }
+// Number 2.
+fn order(grants: &GrantBytes, loans: &LoanWords) -> Result<(), Refusal>
+    ensures { number_of result ≡ chain_guarded (images grants.now loans.now) true 0 }
 {
-    if grants.len() != Grants::BYTES {
-        return Err(Refusal::WrongLength);
-    }
-    if loans.len() != Loans::WORDS {
-        return Err(Refusal::WrongLength);
-    }
-    if !room {
-        return Err(Refusal::WrongLength);
-    }
     let masks = live::masks(grants);
     if !grants::in_order(grants, &masks) {
         return Err(Refusal::NotInOrder);
@@ -91,7 +87,7 @@ fn loan_word(t: Typed) -> u32
 }
 
 // What the table of answers asks of the images.
-fn facts(grants: &[u8], loans: &[u32], t: Typed) -> Facts
+fn facts(grants: &GrantBytes, loans: &LoanWords, t: Typed) -> Facts
     requires { Ready (images grants.now loans.now) (raw_of t) }
     ensures { result ≡ chain_facts (images grants.now loans.now) (raw_of t) }
 {
@@ -108,8 +104,8 @@ fn facts(grants: &[u8], loans: &[u32], t: Typed) -> Facts
 }
 
 // The item's grants and name, then the loans that name it.
-fn drop_item(grants: &mut [u8], loans: &mut [u32], on: Item)
-    requires { (length grants.old ≡ grant_cells) × (length loans.old ≡ loan_words) × (on.0 < 64) }
+fn drop_item(grants: &mut GrantBytes, loans: &mut LoanWords, on: Item)
+    requires { on.0 < 64 }
     ensures { images grants.new loans.new ≡ without_item (images grants.old loans.old)
         on.0 }
 {
@@ -118,16 +114,23 @@ fn drop_item(grants: &mut [u8], loans: &mut [u32], on: Item)
 }
 
 // The shift into the image.
-fn set_shift(loans: &mut [u32], to: Shift)
-    requires { (length loans.old ≡ loan_words) × (to.0 ≤ 255) }
+fn set_shift(loans: &mut LoanWords, to: Shift)
+    requires { to.0 ≤ 255 }
     ensures { loans.new ≡ loans_at to.0 loans.old }
 {
     loans::shift::set(loans, to);
 }
 
 // Ends the loans that the person made on the item, of that right, if a last grant there has ended: had says that there was one before.
-fn end_loans(grants: &[u8], loans: &mut [u32], had: bool, to: Item, on: Item, right: Right)
-    requires { Ending grants.now loans.old to.0 on.0 right.0 }
+fn end_loans(
+    grants: &GrantBytes,
+    loans: &mut LoanWords,
+    had: bool,
+    to: Item,
+    on: Item,
+    right: Right,
+)
+    requires { Ending loans.old to.0 on.0 right.0 }
     ensures { loans.new
         ≡ without_loans (had && not (held grant_bytes grants.now to.0 on.0 right.0)) to.0 on.0 right.0
         loans.old }
@@ -150,8 +153,15 @@ fn end_loans(grants: &[u8], loans: &mut [u32], had: bool, to: Item, on: Item, ri
 }
 
 // One depth ends, and the person's loans there with the last.
-fn drop_grant(grants: &mut [u8], loans: &mut [u32], to: Item, on: Item, right: Right, depth: Depth)
-    requires { Ending grants.old loans.old to.0 on.0 right.0 × (depth.0 < 8) }
+fn drop_grant(
+    grants: &mut GrantBytes,
+    loans: &mut LoanWords,
+    to: Item,
+    on: Item,
+    right: Right,
+    depth: Depth,
+)
+    requires { Ending loans.old to.0 on.0 right.0 × (depth.0 < 8) }
     ensures { images grants.new loans.new ≡ chain_dropped (images grants.old loans.old)
         (grant to.0 on.0 right.0 depth.0) }
 {
@@ -161,8 +171,8 @@ fn drop_grant(grants: &mut [u8], loans: &mut [u32], to: Item, on: Item, right: R
 }
 
 // Every depth ends, and the person's loans there, if there was a depth: the eight drops as one.
-fn drop_grants(grants: &mut [u8], loans: &mut [u32], to: Item, on: Item, right: Right)
-    requires { Ending grants.old loans.old to.0 on.0 right.0 × (chain_in_order (images grants.old loans.old) ≡ true) }
+fn drop_grants(grants: &mut GrantBytes, loans: &mut LoanWords, to: Item, on: Item, right: Right)
+    requires { Ending loans.old to.0 on.0 right.0 × (chain_in_order (images grants.old loans.old) ≡ true) }
     ensures { images grants.new loans.new ≡ chain_withdrawn (images grants.old loans.old)
         to.0 on.0 right.0 }
 {
@@ -172,8 +182,8 @@ fn drop_grants(grants: &mut [u8], loans: &mut [u32], to: Item, on: Item, right: 
 }
 
 // Ends the loans that are past their last shift, and says how many those were.
-fn end_past(loans: &mut [u32]) -> u32
-    requires { (length loans.old ≡ loan_words) × (shift_in loans.old ≤ 255) }
+fn end_past(loans: &mut LoanWords) -> u32
+    requires { shift_in loans.old ≤ 255 }
     ensures { (loans.new
         ≡ loans_kept (λ w. not (word_past (shift_in loans.old) w)) loans.old)
         × (result ≡ count (word_past (shift_in loans.old)) (used loans.old)) }
@@ -183,7 +193,7 @@ fn end_past(loans: &mut [u32]) -> u32
 }
 
 // What an accepted command does, and what it counts.
-fn apply(grants: &mut [u8], loans: &mut [u32], t: Typed) -> u32
+fn apply(grants: &mut GrantBytes, loans: &mut LoanWords, t: Typed) -> u32
     requires { Accepted (images grants.old loans.old) (raw_of t) }
     ensures { (images grants.new loans.new ≡ chain_after (images grants.old loans.old)
         (raw_of t)) × (result ≡ chain_count (images grants.old loans.old) (raw_of t).verb) }
@@ -203,8 +213,9 @@ fn apply(grants: &mut [u8], loans: &mut [u32], t: Typed) -> u32
     0
 }
 
-// Numbers 4 to 10 and 12 to 14, and what follows.
-fn settle(grants: &mut [u8], loans: &mut [u32], t: Typed) -> Result<u32, Refusal>
+// Numbers 4 to 10 and 12 to 14, and what follows. The images are two parameters here and above: a struct of two mutable borrows needs one
+// clause more in every method, that it still has the same two.
+fn settle(grants: &mut GrantBytes, loans: &mut LoanWords, t: Typed) -> Result<u32, Refusal>
     requires { Ready (images grants.old loans.old) (raw_of t) }
     ensures { Returns (judged_in chain_unit (images grants.old loans.old) (raw_of t)) result
         (images grants.new loans.new) }
@@ -219,21 +230,13 @@ pub fn offer(grants: &mut [u8], loans: &mut [u32], c: Command) -> Result<u32, Re
     ensures { RanCounting chain_unit (images grants.old loans.old) c result
         (images grants.new loans.new) }
 {
-    offer_given(order(grants, loans, true), grants, loans, c)
-}
-
-// The same, given what numbers 1 and 2 say of the images: `Done`, from a caller that has kept them in order.
-fn offer_given(
-    order: Result<(), Refusal>,
-    grants: &mut [u8],
-    loans: &mut [u32],
-    c: Command,
-) -> Result<u32, Refusal>
-    requires { number_of order ≡ chain_guarded (images grants.old loans.old) true 0 }
-    ensures { RanCounting chain_unit (images grants.old loans.old) c result
-        (images grants.new loans.new) }
-{
-    let t = admit::command(order, c)?;
+    let Some(grants) = grants.as_mut_array::<{ Grants::BYTES }>() else {
+        return Err(Refusal::WrongLength);
+    };
+    let Some(loans) = loans.as_mut_array::<{ Loans::WORDS }>() else {
+        return Err(Refusal::WrongLength);
+    };
+    let t = admit::command(order(grants, loans), c)?;
     settle(grants, loans, t)
 }
 
@@ -416,12 +419,12 @@ pub fn sweep(grants: &mut [u8], loans: &mut [u32], by: u32) -> Result<u32, Refus
 // the search is given these, the grant bytes of the item and right, and nothing else.
 fn answer_in(
     out: &mut [u32],
-    grants: &[u8],
-    loans: &[u32],
+    grants: &GrantBytes,
+    loans: &LoanWords,
     q: Question,
-    chain: &mut [u8],
+    chain: &mut [u8; PERSONS],
 ) -> Option<BestChain>
-    requires { InShape grants.now loans.now q.who.0 q.on.0 q.right.0 (length chain.old)
+    requires { InShape loans.now q.who.0 q.on.0 q.right.0
         × (count_of loans.now ≤ length out.old) }
     ensures { (result ≡ found_said (found_of grants.now loans.now (8 * q.on.0 + q.right.0) q.who.0))
         × (chain.new ≡ chain_of grants.now loans.now (8 * q.on.0 + q.right.0) q.who.0) }
@@ -432,8 +435,13 @@ fn answer_in(
 }
 
 // The same, with a buffer by the number of loans in use.
-fn answer(grants: &[u8], loans: &[u32], q: Question, chain: &mut [u8]) -> Option<BestChain>
-    requires { InShape grants.now loans.now q.who.0 q.on.0 q.right.0 (length chain.old) }
+fn answer(
+    grants: &GrantBytes,
+    loans: &LoanWords,
+    q: Question,
+    chain: &mut [u8; PERSONS],
+) -> Option<BestChain>
+    requires { InShape loans.now q.who.0 q.on.0 q.right.0 }
     ensures { (result ≡ found_said (found_of grants.now loans.now (8 * q.on.0 + q.right.0) q.who.0))
         × (chain.new ≡ chain_of grants.now loans.now (8 * q.on.0 + q.right.0) q.who.0) }
 {
@@ -459,32 +467,16 @@ pub fn check(
     ensures { ChainChecks (images grants.now loans.now) chain.old who on right result
         chain.new (images grants.now loans.now) }
 {
-    check_given(
-        order(grants, loans, chain.len() == PERSONS),
-        grants,
-        loans,
-        who,
-        on,
-        right,
-        chain,
-    )
-}
-
-// The same, given what numbers 1 and 2 say of the images and the chain buffer.
-fn check_given(
-    order: Result<(), Refusal>,
-    grants: &[u8],
-    loans: &[u32],
-    who: u32,
-    on: u32,
-    right: u32,
-    chain: &mut [u8],
-) -> Result<Option<BestChain>, Refusal>
-    requires { number_of order ≡ chain_guarded (images grants.now loans.now) (eqb (length chain.old) 8) 0 }
-    ensures { ChainChecks (images grants.now loans.now) chain.old who on right result
-        chain.new (images grants.now loans.now) }
-{
-    let q = admit::check(order, who, on, right)?;
+    let Some(grants) = grants.as_array::<{ Grants::BYTES }>() else {
+        return Err(Refusal::WrongLength);
+    };
+    let Some(loans) = loans.as_array::<{ Loans::WORDS }>() else {
+        return Err(Refusal::WrongLength);
+    };
+    let Some(chain) = chain.as_mut_array::<PERSONS>() else {
+        return Err(Refusal::WrongLength);
+    };
+    let q = admit::check(order(grants, loans), who, on, right)?;
     Ok(answer(grants, loans, q, chain))
 }
 
@@ -493,5 +485,11 @@ pub fn inspect(grants: &[u8], loans: &[u32]) -> Result<(), Refusal>
     ensures { ChainInspects (images grants.now loans.now) result
         (images grants.now loans.now) }
 {
-    order(grants, loans, true)
+    let Some(grants) = grants.as_array::<{ Grants::BYTES }>() else {
+        return Err(Refusal::WrongLength);
+    };
+    let Some(loans) = loans.as_array::<{ Loans::WORDS }>() else {
+        return Err(Refusal::WrongLength);
+    };
+    order(grants, loans)
 }

@@ -1,5 +1,6 @@
 -- The item is out of both images, each by its own step (`stepped`); the loans image has the right length, so the pass over it was
 -- made (`kept_loans`).
+use borrow.Author.Rules.{rules}
 use Rattle.delegation.specs.Images.{images}
 use Rattle.chains.specs.Ready.{without_item}
 use Rattle.chains.proofs.Arms.{stepped, kept_loans}
@@ -9,4 +10,4 @@ pub returns : goal.returns
 returns c =
     stepped (without_item (images c.args.grants.now c.args.loans.now) c.args.on.0)
     c.drop_item.ensures
-    (kept_loans c.args.loans.now _ _ c.requires.1 c.retain.ensures.0)
+    (kept_loans c.args.loans.now _ _ (search rules) c.retain.ensures.0)

@@ -1,8 +1,7 @@
 -- The table is asked about the facts of the images: a refusal leaves both and counts nothing (`counting_stops`); where there is none the
 -- command is accepted (`accepted`), and it is applied and counts (`counting_goes`).
-use mathlib.Core.Path.{◌≡◌, sym, subst}
+use mathlib.Core.Path.{sym, subst}
 use Rattle.model.proofs.Answers.{passed-on}
-use Rattle.std.specs.Prelude.{Err}
 use Rattle.model.specs.Answers.{Returns}
 use Rattle.layouts.specs.Machine.{judged_in}
 use Rattle.layouts.proofs.Ends.{counting_stops, counting_goes}
