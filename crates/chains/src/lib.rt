@@ -240,6 +240,8 @@ pub fn offer(grants: &mut [u8], loans: &mut [u32], c: Command) -> Result<u32, Re
     settle(grants, loans, t)
 }
 
+// The ten commands, each a function of its own as callers name it; five have the names of a flat unit's (`layouts::flat`), over two images
+// and with a count.
 pub fn create(grants: &mut [u8], loans: &mut [u32], by: u32, on: u32) -> Result<u32, Refusal>
     ensures { RanCounting chain_unit (images grants.old loans.old) (Create by on) result
         (images grants.new loans.new) }

@@ -26,6 +26,7 @@ impl Grants {
     // The bytes of an image.
     pub const BYTES: usize = 32776;
 
+    // As `Rows::fresh`, of an image of another length.
     pub fn fresh() -> Grants
         ensures { (result.live ≡ get_or (fresh_image grant_bytes) 0 0) × (result.edit ≡ get_or (fresh_image grant_bytes) 8 0) }
     {

@@ -6,6 +6,10 @@ ghost use Rattle.std.specs.Prelude.{◌≡◌, cond, ◌&&◌};
 ghost use Rattle.model.specs.Commands.{items, right_depth, shifts, arguments, arguments_of, is_sweep, is_empty, fits, typed_of, within_of, raw_of, question_of, item_of, right_of, depth_of, shift_of};
 ghost use Rattle.model.specs.Answers.{refusal_number, number_of, answer_for, flat, knows, table};
 
+// Four kinds of number and not one generic type: a right is no depth, though both are 0 to 7. `read` says no more than that a number is
+// within its range, so it gives an Option and is no TryFrom; `number` is the field. No kind has an invariant: public functions say what
+// they do with any number of it (`layouts::live::is_live`, `delegation::loan::word`).
+
 // An item number, 0 to 63.
 #[derive(Clone, Copy)]
 pub struct Item(u32);
@@ -253,7 +257,7 @@ pub struct Arguments {
     pub set: u64,
 }
 
-// The same, each number within its range.
+// The same, each number within its range. A type of its own: with the kinds as parameters it would name nine of them.
 #[derive(Clone, Copy)]
 pub struct Typed {
     pub verb: Verb,

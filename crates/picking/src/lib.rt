@@ -93,7 +93,8 @@ fn carrying(out: &mut [u32], loans: &[u32], key: u32, shift: Shift) -> usize
     pick_run(out, &loans[from..], m, key)
 }
 
-// The carrying loans of that item and right, each once and rising, to the front of `out`, and their number. A helper for the unit,
+// The carrying loans of that item and right, each once and rising, to the front of `out`, and their number: memory is fixed, so the
+// caller lends the buffer, and what is in it is told by a number. A helper for the unit,
 // which has judged the image and read the arguments: so it refuses nothing, and requires what they were judged for.
 pub fn pick(out: &mut [u32], loans: &[u32], on: Item, right: Right) -> usize
     requires { Pickable loans.now on.0 right.0 (length out.old) }

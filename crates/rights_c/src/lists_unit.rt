@@ -1,4 +1,4 @@
-// The lists unit for C.
+// The lists unit for C, which has no generic functions: so each unit has its exported names, and lists and rows are written twice here.
 ghost use Rattle.model.specs.declared.Command.TheVariants.{Create, Delete, Allow, Withdraw, AllowSet};
 ghost use Rattle.layouts.specs.Layouts.{lists, flat_unit};
 ghost use Rattle.rights_c.specs.Exports.{Gives, Freshens, Answers, Subjects, Inspects};

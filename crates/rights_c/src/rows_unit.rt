@@ -1,4 +1,4 @@
-// The rows unit for C.
+// The rows unit for C; it is the lists unit's file under other names, since C has no generic functions.
 ghost use Rattle.model.specs.declared.Command.TheVariants.{Create, Delete, Allow, Withdraw, AllowSet};
 ghost use Rattle.layouts.specs.Layouts.{rows, flat_unit};
 ghost use Rattle.rights_c.specs.Exports.{Gives, Freshens, Answers, Subjects, Inspects};
