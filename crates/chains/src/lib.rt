@@ -3,7 +3,7 @@
 
 #![tactic(auto)]
 
-ghost use Rattle.std.specs.Prelude.{◌≡◌, true, not, ◌&&◌, ◌+◌, ◌*◌, ◌≤◌, ◌<◌, eqb, length};
+ghost use Rattle.std.specs.Prelude.{◌≡◌, true, not, ◌&&◌, ◌+◌, ◌*◌, ◌≤◌, ◌<◌, length};
 ghost use Rattle.bits.specs.Sets.{count};
 ghost use Rattle.model.specs.declared.Command.TheVariants.{Create, Delete, Allow, Withdraw, Lend, Recall, AllowSet, Drop, Sweep};
 ghost use Rattle.model.specs.declared.Command.TheVariants as command;
@@ -11,8 +11,8 @@ ghost use Rattle.model.specs.Commands.{Ranged, raw_of};
 ghost use Rattle.model.specs.Answers.{number_of, Returns, found_said};
 ghost use Rattle.layouts.specs.Machine.{judged_in, RanCounting};
 ghost use Rattle.model.specs.Journal.{grant, loan_in};
-ghost use Rattle.layouts.specs.Layouts.{grant_bytes, grant_cells, held};
-ghost use Rattle.delegation.specs.Loans.{word_of, word_past, loan_words, count_of, shift_in, used, loans_kept, loans_at};
+ghost use Rattle.layouts.specs.Layouts.{grant_bytes, held};
+ghost use Rattle.delegation.specs.Loans.{word_of, word_past, count_of, shift_in, used, loans_kept, loans_at};
 ghost use Rattle.delegation.specs.Search.{found_of, chain_of};
 ghost use Rattle.delegation.specs.Images.{images};
 ghost use Rattle.delegation.specs.ChainUnit.{chain_unit, chain_in_order, chain_guarded, chain_facts, chain_dropped, chain_withdrawn, chain_after, chain_count, ChainChecks, ChainInspects, ChainFreshens};
