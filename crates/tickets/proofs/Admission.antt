@@ -5,7 +5,7 @@ use mathlib.Core.Bool.{Bool, true, false, ◌&&◌, cond}
 use mathlib.Core.List.{List}
 use Prim.Native.Nat.{ℕ, ◌<◌}
 use native.Mathlib.Omega.{arith}
-use borrow.Author.Tests.{ne_eqb, eqb-true, leb-true}
+use borrow.Author.Tests.{ne_eqb, leb-true}
 use lib.ListN.{length}
 use lib.Dec.{eqb, leb}
 use Rattle.bits.proofs.Sets.{fst, snd}
@@ -16,9 +16,8 @@ use Rattle.model.specs.Commands.{items, right_depth, asking}
 use Rattle.model.specs.Answers.{refusal_number, number_of, answer_with}
 use Rattle.model.proofs.Answers.{refuses, refused, refused_is, found_is, numbered}
 use Rattle.model.proofs.Commands.{asked-ranged}
-use Rattle.layouts.specs.Machine.{guarded_by}
 use Rattle.layouts.specs.Admission.{check_admission}
-use Rattle.layouts.proofs.Guarding.{guard_on}
+use Rattle.layouts.proofs.Guarding.{guard_passed, guard_on}
 use Rattle.layouts.proofs.Admission.{admits, check_admitted}
 use Rattle.ticketing.specs.declared.TicketCommand.{TicketCommand}
 use Rattle.ticketing.specs.declared.TicketCommand.TheVariants.{Generate}
@@ -39,20 +38,11 @@ goes s x c e h = (sym e, h ∙ sym (rw e))
 pub order-length : (s : List ℕ) → (length s ≡ ticket_words → ⊥) → 1 ≡ guarded s 0
 order-length s h = rw (ne_eqb (length s) ticket_words h)
 
--- numbers 1 and 2 are passed: the image has its length and is in order
-pub in_order : (s : List ℕ) → guarded s 0 ≡ 0 → (length s ≡ ticket_words) × (is_in_order (machine_of s) ≡ true)
-in_order s e = go (eqb (length s) ticket_words) (is_in_order (machine_of s)) refl refl e
-  where
-    go : (a b : Bool) → eqb (length s) ticket_words ≡ a → is_in_order (machine_of s) ≡ b → guarded_by a b 0 ≡ 0
-        → (length s ≡ ticket_words) × (is_in_order (machine_of s) ≡ true)
-    go true true p q g = (eqb-true (length s) ticket_words p, q)
-    go true false p q g = absurd (omega arith)
-    go false b p q g = absurd (omega arith)
-
+-- past numbers 1 to 3
 module _ (s : List ℕ) (by on right : ℕ) where
   ready : guarded s 0 ≡ 0 → items by on && right_depth right 0 ≡ true → Ready s by on right
   ready g w =
-      let v = in_order s g in
+      let v = guard_passed (eqb (length s) ticket_words) (is_in_order (machine_of s)) g in
       let a : leb by 63 ≡ true = search (fst, snd) in
       let b : leb on 63 ≡ true = search (fst, snd) in
       let c : leb right 7 ≡ true = search (fst, snd) in

@@ -21,9 +21,6 @@ returns-then-image-gt-LAST c =
     let e = lt-leb (get_or c.args.image.now 1 0) 4294967295 (omega arith) in
     sym (rw (a, e))
 
-pub records_ok-requires : goal.records_ok-requires
-records_ok-requires c = omega arith
-
 pub returns : goal.returns
 unfolding machine_of
 returns c =

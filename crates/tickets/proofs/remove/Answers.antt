@@ -15,15 +15,19 @@ returns-in_default c =
 
 pub end_ticket-requires : goal.end_ticket-requires
 end_ticket-requires c =
-    let m = admitted c.in-Some.image.now (Remove c.args.by c.args.number) c.args.by 0 0 refl c.order.result c.order.ensures (Ok _) c.in_ok-q.ensures in
+    let m = admitted c.in-Some.image.now (Remove c.args.by c.args.number) c.args.by 0 0 refl c.order.result
+    c.order.ensures (Ok _) c.in_ok-q.ensures in
     rw m.1 (rw m.1 at m.0)
 
 pub returns-in_err-q : goal.returns-in_err-q
 returns-in_err-q c =
     rw (← c.in-Some.ensures.cases.same, passed-on _ _ c.from_residual.ensures (λ y i. i))
-    (refused_ran c.in-Some.image.now (Remove c.args.by c.args.number) c.args.by 0 0 refl c.order.result c.order.ensures _ c.in_err-q.ensures)
+    (refused_ran c.in-Some.image.now (Remove c.args.by c.args.number) c.args.by 0 0 refl c.order.result
+    c.order.ensures _ c.in_err-q.ensures)
 
 pub returns : goal.returns
 returns c =
-    let m = admitted c.in-Some.image.now (Remove c.args.by c.args.number) c.args.by 0 0 refl c.order.result c.order.ensures (Ok _) c.in_ok-q.ensures in
-    rw (← c.in-Some.ensures.cases.same) (ran c.in-Some.image.now (Remove c.args.by c.args.number) m.2 m.3 _ _ (rw m.1 at c.end_ticket.ensures))
+    let m = admitted c.in-Some.image.now (Remove c.args.by c.args.number) c.args.by 0 0 refl c.order.result
+    c.order.ensures (Ok _) c.in_ok-q.ensures in
+    rw (← c.in-Some.ensures.cases.same)
+    (ran c.in-Some.image.now (Remove c.args.by c.args.number) m.2 m.3 _ _ (rw m.1 at c.end_ticket.ensures))
