@@ -47,8 +47,8 @@ const MANY: usize = 1024;
 // How many have room in a small buffer, which is sooner made.
 const FEW: usize = 64;
 
-// Number 1 alone: whatever the buffers held is overwritten. The small state that is written is that of `Grants::fresh` and
-// `Loans::fresh`.
+// Number 1 alone, of both buffers before either is written: whatever they held is overwritten. The small state that is written is that of
+// `Grants::fresh` and `Loans::fresh`.
 pub fn fresh(grants: &mut [u8], loans: &mut [u32]) -> Result<(), Refusal>
     ensures { ChainFreshens (images grants.old loans.old) result
         (images grants.new loans.new) }

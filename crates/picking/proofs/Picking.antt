@@ -6,7 +6,7 @@ use Prim.Native.Nat.{ℕ, zero, suc, ◌+◌, ◌≤◌, ◌<◌}
 use native.Mathlib.Omega.{arith}
 use native.Mathlib.Nat.{add-zero}
 use native.Mathlib.Numerals.{add-one}
-use lib.ListN.{length, get_or, set, take, length-append}
+use lib.ListN.{length, get_or, set, take}
 use lib.Seq.{take-suc-set, take-set-le}
 use Rattle.std.specs.List.{sum_by}
 use Rattle.std.proofs.lemmas.List.Sums.{sum_by-cons}
@@ -89,17 +89,6 @@ keep-every t (x ∷ xs) h = go (t x) h (keep-every t xs)
         → cond b (x ∷ keep t xs) (keep t xs) ≡ x ∷ xs
     go true h k = ap (◌∷◌ x) (k (omega arith))
     go false h k = absurd (omega (arith, keep_le t xs))
-
--- one more element is counted where it passes
-pub count_more : (t : ℕ → Bool) (ls : List ℕ) (i c n : ℕ) → i < length ls → c ≡ length (keep t (take i ls)) → n ≡ cond (t (get_or ls i 0)) 1 0
-    → c + n ≡ length (keep t (take (i + 1) ls))
-count_more t ls i c n h e f =
-    sym (ap length (keep_more t ls i 0 h) ∙ length-append (keep t (take i ls)) (cond (t (get_or ls i 0)) (get_or ls i 0 ∷ []) [])
-    ∙ go (t (get_or ls i 0)) f)
-  where
-    go : (b : Bool) → n ≡ cond b 1 0 → length (keep t (take i ls)) + length (cond b (get_or ls i 0 ∷ []) []) ≡ c + n
-    go true f = omega arith
-    go false f = omega arith
 
 -- an element that passes counts 1, another 0: the sum is how many pass
 pub sum-keep : (t : ℕ → Bool) (xs : List ℕ) → sum_by (λ x. cond (t x) 1 0) xs ≡ length (keep t xs)

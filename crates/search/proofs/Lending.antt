@@ -81,7 +81,8 @@ pub first_front : (xs front block : List ℕ) → xs ≡ front ++ block → Firs
 first_front xs front block e = rw e (simp length-append (omega arith), sym (take-append_seam front block))
 
 -- the loan that the first of the loans end with
-pub first_end : (ls xs front : List ℕ) (w : ℕ) → First ls xs → xs ≡ front ++ (w ∷ []) → length front + 1 ≡ length xs → w ≡ get_or ls (length front) 0
+pub first_end : (ls xs front : List ℕ) (w : ℕ) → First ls xs → xs ≡ front ++ (w ∷ []) → length front + 1 ≡ length xs
+    → w ≡ get_or ls (length front) 0
 first_end ls xs front w f e n =
     sym (get_or-append_seam front w [] 0) ∙ ap (λ (l : List ℕ). get_or l (length front) 0) (sym e)
     ∙ first_at_place ls xs f (length front) (omega arith)

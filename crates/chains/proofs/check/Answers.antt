@@ -57,4 +57,5 @@ returns c =
     (λ j. images (c.in-Some.ensures.cases.same j) (c.in-Some-as_array.ensures.cases.same j))
     (subst (λ old. ChainChecks s old c.args.who c.args.on c.args.right (Ok c.answer.result) c.answer.new.chain s)
     c.in-Some-as_mut_array.ensures.cases.same
-    (chain_check_says s b c.args.who c.args.on c.args.right c.order.result guarded _ c.in_ok-q.ensures _ _ c.answer.ensures.0 c.answer.ensures.1))
+    (chain_check_says s b c.args.who c.args.on c.args.right c.order.result guarded _ c.in_ok-q.ensures _ _
+    c.answer.ensures.0 c.answer.ensures.1))

@@ -1,5 +1,5 @@
--- A wrong length is number 1 (`wrong_length`). In images of their lengths, what numbers 1 to 3 admit decides (`counting_admitted`): a refusal
--- has its number and changes nothing; past them both images are in order, the arguments are within their limits, and what the table and
+-- A wrong length is number 1 (`wrong_length`). In images of their lengths, what numbers 1 to 3 admit decides (`counting_admitted`): a
+-- refusal has its number and changes nothing; past them both images are in order, the arguments are within their limits, and what the table and
 -- the command make of it is the answer.
 use mathlib.Core.Path.{refl, sym, subst}
 use Rattle.model.proofs.Answers.{passed-on}
@@ -21,7 +21,8 @@ pub returns-in_default-as_mut_array : goal.returns-in_default-as_mut_array
 returns-in_default-as_mut_array c =
     let s = images c.args.grants.now c.args.loans.now in
     subst (λ g. RanCounting chain_unit s c.args.c (Err is.WrongLength) (images g c.args.loans.now)) (sym c.in-Some.ensures.cases.same)
-    (counting_admitted chain_unit s c.args.c (Err is.WrongLength) (wrong_length s _ (λ g t r. c.in_default-as_mut_array.ensures.cases t)) (Err _) refl)
+    (counting_admitted chain_unit s c.args.c (Err is.WrongLength)
+    (wrong_length s _ (λ g t r. c.in_default-as_mut_array.ensures.cases t)) (Err _) refl)
 
 pub settle-requires : goal.settle-requires
 settle-requires c =

@@ -15,7 +15,8 @@ use Rattle.picking.proofs.pick.Goals as goal
 pub carrying-requires : goal.carrying-requires
 unfolding used
 carrying-requires c =
-    let m : c.from-end.result + 1 - 1 ≡ count_of c.args.loans.now = omega (arith, c.from-end.ensures ∙ ap (λ (h : Header). h.count) c.of-header.ensures) in (
+    let m : c.from-end.result + 1 - 1 ≡ count_of c.args.loans.now =
+    omega (arith, c.from-end.ensures ∙ ap (λ (h : Header). h.count) c.of-header.ensures) in (
       search rules,
       ap (λ (k : ℕ). rising (take k (drop 1 c.args.loans.now))) m ∙ c.requires.rises,
       omega (arith, c.present-shift.ensures),
@@ -24,10 +25,12 @@ carrying-requires c =
 pub returns : goal.returns
 unfolding used picked
 returns c =
-    let m : c.from-end.result + 1 - 1 ≡ count_of c.args.loans.now = omega (arith, c.from-end.ensures ∙ ap (λ (h : Header). h.count) c.of-header.ensures) in
+    let m : c.from-end.result + 1 - 1 ≡ count_of c.args.loans.now =
+    omega (arith, c.from-end.ensures ∙ ap (λ (h : Header). h.count) c.of-header.ensures) in
     let now : c.present-shift.result.0 ≡ shift_in c.args.loans.now =
     omega (arith, c.present-shift.ensures ∙ ap (λ (h : Header). h.shift % 256) c.of-header.ensures, c.requires.shift) in
-    let key : c.key-key.result ≡ 8 * c.args.on.0 + c.args.right.0 = omega (arith, c.key-key.ensures, c.requires.item, c.requires.rights) in (
+    let key : c.key-key.result ≡ 8 * c.args.on.0 + c.args.right.0 =
+    omega (arith, c.key-key.ensures, c.requires.item, c.requires.rights) in (
       omega (
         arith,
         c.carrying.ensures.0,

@@ -15,8 +15,8 @@ returns-then-arrive_of-v c =
     let ls = c.args.ls.now in
     let n = length c.in-Some.front.now in
     let left = c.last_passing.ensures in
-    let e = left_end ls c.args.q.0 c.loop-w.rest.now c.last_passing.result.now c.in-Some.front.now c.in-Some.w.now c.loop-w.invariant.0 left.0
-    c.in-Some.ensures.cases in
+    let e = left_end ls c.args.q.0 c.loop-w.rest.now c.last_passing.result.now c.in-Some.front.now c.in-Some.w.now
+    c.loop-w.invariant.0 left.0 c.in-Some.ensures.cases in
     let got = c.arrive_of.ensures ∙ ap (λ (u : ℕ). arrive (get_or c.args.round.now (lender u) 0) u c.args.q.0) e.1 in
     c.lender.ensures ∙ ap lender e.1
     ∙ sym (c.loop-w.invariant.1
@@ -29,8 +29,8 @@ loop-w-preserved c =
     let ls = c.args.ls.now in
     let n = length c.in-Some.front.now in
     let left = c.last_passing.ensures in
-    let e = left_end ls c.args.q.0 c.loop-w.rest.now c.last_passing.result.now c.in-Some.front.now c.in-Some.w.now c.loop-w.invariant.0 left.0
-    c.in-Some.ensures.cases in
+    let e = left_end ls c.args.q.0 c.loop-w.rest.now c.last_passing.result.now c.in-Some.front.now c.in-Some.w.now
+    c.loop-w.invariant.0 left.0 c.in-Some.ensures.cases in
     let got = c.arrive_of.ensures ∙ ap (λ (u : ℕ). arrive (get_or c.args.round.now (lender u) 0) u c.args.q.0) e.1 in (
       e.0,
       c.loop-w.invariant.1
