@@ -142,7 +142,7 @@ impl Key {
     }
 }
 
-// What a line does, in the order of the grammar's list.
+// What a line does, in the order of the grammar's list. It is no `Verb` of a command: a line may ask for a check.
 #[derive(Clone, Copy)]
 enum Action {
     Create,

@@ -118,7 +118,7 @@ fn place(on: Item, right: Right) -> usize
     1 + (8 * on.number() + right.number()) as usize
 }
 
-// Every bit that one of the words has.
+// Every bit that one of the words has. Rows have the same of bytes (`has_right`), where another question is asked of it.
 fn union(words: &[u64]) -> u64
     ensures { result ≡ or_below (length words.now) (λ k. get_or words.now k 0) }
 {

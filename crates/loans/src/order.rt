@@ -1,4 +1,4 @@
-// Whether a loans image is in order. Each chain tests every word, whatever the others say: a loop with no exit is one of vectors.
+// Whether a loans image is in order. Each test looks at every word, whatever the others say: a loop with no exit is one of vectors.
 ghost use Rattle.std.specs.Prelude.{◌≡◌, ◌&&◌, ◌+◌, ◌<◌, length, eqb, leb};
 ghost use Rattle.bits.specs.Sets.{all};
 ghost use Rattle.model.specs.Commands.{shifts, most_loans};

@@ -7,7 +7,7 @@ ghost use Rattle.output.specs.Output.{reply, malformed_reply, offered_of, comman
 
 use model::{BestChain, Command, Refusal, number};
 
-// A unit's field: its number, yes or no, or that it passes the command over.
+// A unit's field: its number, yes or no, or that it passes the command over. A number is what stands in the field, of whatever it is one.
 #[derive(Clone, Copy)]
 pub enum Said {
     Number(u32),

@@ -28,8 +28,8 @@ fn write<O: Print>(output: &O, out: &[u8], n: usize) -> Result<(), Failed>
     output.write_all(&out[..n]).map_err(|_| Failed)
 }
 
-// The four images stay parameters of their own, as in stream.
-// Hands a chunk to the command reader, as much at a time as the output has room for, and writes the output.
+// Hands a chunk to the command reader, as much at a time as the output has room for, and writes the output. The four images are parameters
+// of their own, as in stream.
 fn answer<O: Print>(
     output: &O,
     list: &mut [u64; Lists::WORDS],

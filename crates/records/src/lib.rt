@@ -9,22 +9,17 @@ ghost use Rattle.ticketing.specs.Image.{ticket_at};
 ghost use Rattle.records.specs.Records.{places_for, reading_of, inquiry_of, found_of};
 
 use bits::Word;
-use model::{Question, Refusal, number};
+use model::{Question, Refusal};
 use ticketing::Ticket;
+use tickets::Tickets;
 
 // The number of reading an image into a slice, and how many places are to be filled: none beside a refusal. Numbers and no Result, here and
-// in `Inquiry`: the exported functions that are lent structs go by the two numbers alone.
+// in `Inquiry`: C lends the structs, so `rights_tickets_records` and `rights_tickets_check_records` go through `count` places whatever is
+// refused, and return `number`.
 #[derive(Clone, Copy)]
 pub struct Reading {
     pub number: u32,
     pub count: usize,
-}
-
-impl Reading {
-    // The places for tickets, and the words of an image.
-    const PLACES: usize = 1024;
-
-    const WORDS: usize = 2050;
 }
 
 // The number of a check over a slice, how many places are to be looked at, and what is asked.
@@ -41,20 +36,20 @@ pub struct Inquiry {
 fn places_for(number: u32) -> usize
     ensures { result ≡ places_for number }
 {
-    if number != 0 { 0 } else { Reading::PLACES }
+    if number != 0 { 0 } else { Tickets::PLACES }
 }
 
 // Before an image is read into a slice of so many places. The length is told here already, so that the reading needs no test of it.
 pub fn judge(image: &[u64], places: usize) -> Reading
     ensures { result ≡ reading_of image.now places }
 {
-    if places != Reading::PLACES || image.len() != Reading::WORDS {
+    if places != Tickets::PLACES || image.len() != Tickets::WORDS {
         return Reading {
-            number: 1,
+            number: Refusal::WrongLength.number(),
             count: 0,
         };
     }
-    let number = number(tickets::inspect(image));
+    let number = model::number(tickets::inspect(image));
     let count = places_for(number);
     Reading { number, count }
 }
@@ -100,9 +95,9 @@ pub fn ticket_of(image: &[u64], k: usize) -> Ticket
 pub fn ask(places: usize, who: u32, on: u32, right: u32) -> Inquiry
     ensures { result ≡ inquiry_of places who on right }
 {
-    if places != Reading::PLACES {
+    if places != Tickets::PLACES {
         return Inquiry {
-            number: 1,
+            number: Refusal::WrongLength.number(),
             count: 0,
             who,
             on,
@@ -122,7 +117,7 @@ pub fn ask(places: usize, who: u32, on: u32, right: u32) -> Inquiry
     }
 }
 
-// 1 where a struct is the ticket that is asked for, else what was found before it.
+// 1 where a struct is the ticket that is asked for, else what was found before it; a number, as the exported check writes it.
 pub fn look(q: Inquiry, found: u32, t: Ticket) -> u32
     ensures { result ≡ found_of q found t }
 {

@@ -33,17 +33,17 @@ impl Progress {
     }
 }
 
-// How much of a chunk one piece was, the place after its output, and where the run stands.
+// How much of a chunk was taken, how many bytes of the output are written, and where the run stands.
 #[derive(Clone, Copy)]
-struct Piece {
-    used: usize,
-    at: usize,
-    next: Progress,
+pub struct Consumed {
+    pub used: usize,
+    pub written: usize,
+    pub next: Progress,
 }
 
-// The four images stay parameters of their own: a struct of four `&mut` would add to each contract that it still holds the same four, and
-// the public functions take the images.
 // Runs the line that ended in the line buffer, and writes its output.
+// The four images are parameters of their own, here and below: a struct of four `&mut` would add to each contract that it still holds the
+// same four, and the public functions take the images.
 fn take_line(
     list: &mut [u64],
     row: &mut [u8],
@@ -78,10 +78,10 @@ fn take_piece(
     at: usize,
     p: Progress,
     chunk: &[u8],
-) -> Piece
+) -> Consumed
     requires { (room (length out.old) at ≡ true) × (p.lines < last_lines) }
     ensures { Takes (session p.lines (units_in list.old row.old grants.old loans.old)
-        buf.old p.held) chunk.now out.old at result.used result.at
+        buf.old p.held) chunk.now out.old at result.used result.written
         (session result.next.lines (units_in list.new row.new grants.new loans.new)
         buf.new result.next.held) out.new }
 {
@@ -91,30 +91,22 @@ fn take_piece(
     let used = fed.used;
     let held = fed.held;
     if !fed.ended {
-        return Piece {
+        return Consumed {
             used,
-            at,
+            written: at,
             next: Progress { lines, held },
         };
     }
     let end = take_line(list, row, grants, loans, out, buf, at, lines, held);
     let none = Partial::none();
-    Piece {
+    Consumed {
         used,
-        at: end,
+        written: end,
         next: Progress {
             lines: lines + 1,
             held: none,
         },
     }
-}
-
-// How much of a chunk was taken, how many bytes of output were written, and where the run stands.
-#[derive(Clone, Copy)]
-pub struct Consumed {
-    pub used: usize,
-    pub written: usize,
-    pub next: Progress,
 }
 
 // Takes a chunk, or as much of it as the output has room for; 128 bytes are room for a line.
@@ -140,7 +132,7 @@ pub fn consume(
     while !rest.is_empty() && has_room(out.len(), at) && next.lines < Progress::LAST {
         let t = take_piece(list, row, grants, loans, buf, out, at, next, rest);
         rest = &rest[t.used..];
-        at = t.at;
+        at = t.written;
         next = t.next;
     }
     Consumed {

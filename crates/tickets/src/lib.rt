@@ -269,6 +269,8 @@ fn put_ticket(image: &mut [u64; Tickets::WORDS], place: usize, by: Item, on: Ite
     image[1] = number + 1;
 }
 
+// Each command past numbers 1 to 3 has its rows of the table in their order, as the request tells them: no two have the same.
+
 // create past numbers 1 to 3: 4, 6, 15, 16.
 fn make(image: &mut [u64; Tickets::WORDS], by: Item, on: Item) -> Result<(), Refusal>
     requires { Ready image.old by.0 on.0 0 }
