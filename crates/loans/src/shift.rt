@@ -30,7 +30,7 @@ pub fn goes_back(loans: &[u32], to: Shift) -> bool
     ensures { result ≡ ltb to.0 (shift_in loans.now % 256) && any word_dated (used loans.now) }
 {
     let shift = present(loans);
-    if to.number() >= shift.number() {
+    if to >= shift {
         return false;
     }
     has_dated(loans)

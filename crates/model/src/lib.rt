@@ -11,19 +11,19 @@ ghost use Rattle.model.specs.Answers.{refusal_number, number_of, answer_for, fla
 // they do with any number of it (`layouts::live::is_live`, `delegation::loan::word`).
 
 // An item number, 0 to 63.
-#[derive(Clone, Copy)]
+#[derive(Clone, Copy, PartialEq, Eq, PartialOrd, Ord)]
 pub struct Item(u32);
 
 // A right number, 0 to 7.
-#[derive(Clone, Copy)]
+#[derive(Clone, Copy, PartialEq, Eq, PartialOrd, Ord)]
 pub struct Right(u32);
 
 // A depth, 0 to 7.
-#[derive(Clone, Copy)]
+#[derive(Clone, Copy, PartialEq, Eq, PartialOrd, Ord)]
 pub struct Depth(u32);
 
 // A shift, 0 to 255. As the last shift of a loan, 0 says that the loan is open-ended.
-#[derive(Clone, Copy)]
+#[derive(Clone, Copy, PartialEq, Eq, PartialOrd, Ord)]
 pub struct Shift(u32);
 
 // A set of items, bit i for item i. Every number of 64 bits is one.
