@@ -1,17 +1,12 @@
 -- The search is given the 64 bytes of the item and right, whose key is theirs as both are within their limits, and the loans picked for
 -- them: so what it finds is what the check finds.
 use native.Mathlib.Omega.{arith}
-use mathlib.Core.Path.{◌≡◌, sym, ◌∙◌}
+use mathlib.Core.Path.{◌≡◌, ◌∙◌}
 use Prim.Native.Nat.{◌+◌, ◌-◌, ◌*◌}
 use lib.ListN.{take, drop}
-use lib.Seq.{length-take-le}
 use Rattle.model.specs.Answers.{found_said}
 use Rattle.delegation.specs.Search.{grants_of, best_of, best_chain, found_of, chain_of}
 use Rattle.chains.proofs.answer_in.Goals as goal
-
-pub slice_bounds-best-end-3 : goal.slice_bounds-best-end-3
-slice_bounds-best-end-3 c =
-    sym (length-take-le c.pick-m.result c.pick-m.new.out (omega arith))
 
 pub returns : goal.returns
 unfolding grants_of found_of chain_of

@@ -3,13 +3,9 @@
 -- through, with room in it, since row 10 does not hold (`room`). A sweep finds the shift within its limit (`counted`).
 use borrow.Author.Rules.{rules}
 use native.Mathlib.Omega.{arith}
-use mathlib.Core.Path.{refl, ap, ◌∙◌}
-use mathlib.Core.Bool.{not}
-use lib.Dec.{eqb}
 use Rattle.model.specs.Commands.{raw_of}
-use Rattle.delegation.specs.Loans.{loans_with, loans_kept}
 use Rattle.delegation.specs.Images.{images}
-use Rattle.chains.proofs.Arms.{arm, loans-ordered, room}
+use Rattle.chains.proofs.Arms.{loans-ordered, room}
 use Rattle.chains.proofs.Ending.{ending}
 use Rattle.chains.proofs.Judging.{counted}
 use Rattle.chains.proofs.apply.Goals as goal
@@ -36,67 +32,3 @@ drop_grant-requires c = (
 pub end_past-requires : goal.end_past-requires
 end_past-requires c =
     (counted (images c.args.grants.now c.args.loans.now) c.requires.ready.ordered).0
-
-pub returns-in-Sweep : goal.returns-in-Sweep
-returns-in-Sweep c =
-    arm (images c.args.grants.now c.args.loans.now) _ _ (raw_of c.args.t) _
-    c.in-Sweep.is
-    (ap (images c.args.grants.now) c.end_past.ensures.0) c.end_past.ensures.1
-
-pub returns-in-Create : goal.returns-in-Create
-returns-in-Create c =
-    arm (images c.args.grants.now c.args.loans.now) _ _ (raw_of c.args.t) _
-    c.in-Create.is
-    (ap (λ g. images g c.args.loans.now) c.put_item.ensures) refl
-
-pub returns-in-Delete : goal.returns-in-Delete
-returns-in-Delete c =
-    arm (images c.args.grants.now c.args.loans.now) _ _ (raw_of c.args.t) _
-    c.in-Delete.is
-    c.drop_item.ensures refl
-
-pub returns-in-Allow : goal.returns-in-Allow
-returns-in-Allow c =
-    arm (images c.args.grants.now c.args.loans.now) _ _ (raw_of c.args.t) _
-    c.in-Allow.is
-    (ap (λ g. images g c.args.loans.now) c.put_grant.ensures) refl
-
-pub returns-in-Withdraw : goal.returns-in-Withdraw
-returns-in-Withdraw c =
-    arm (images c.args.grants.now c.args.loans.now) _ _ (raw_of c.args.t) _
-    c.in-Withdraw.is
-    c.drop_grants.ensures refl
-
-pub returns-in-Lend : goal.returns-in-Lend
-returns-in-Lend c =
-    arm (images c.args.grants.now c.args.loans.now) _ _ (raw_of c.args.t) _
-    c.in-Lend.is
-    (ap (images c.args.grants.now)
-    (c.insert.ensures ∙ ap (λ w. loans_with w c.args.loans.now) c.loan_word.ensures))
-    refl
-
-pub returns-in-Recall : goal.returns-in-Recall
-returns-in-Recall c =
-    arm (images c.args.grants.now c.args.loans.now) _ _ (raw_of c.args.t) _
-    c.in-Recall.is
-    (ap (images c.args.grants.now)
-    (c.remove.ensures
-    ∙ ap (λ w. loans_kept (λ x. not (eqb w x)) c.args.loans.now) c.loan_word-in-Recall.ensures)) refl
-
-pub returns-in-Shift : goal.returns-in-Shift
-returns-in-Shift c =
-    arm (images c.args.grants.now c.args.loans.now) _ _ (raw_of c.args.t) _
-    c.in-Shift.is
-    (ap (images c.args.grants.now) c.set_shift.ensures) refl
-
-pub returns-in-AllowSet : goal.returns-in-AllowSet
-returns-in-AllowSet c =
-    arm (images c.args.grants.now c.args.loans.now) _ _ (raw_of c.args.t) _
-    c.in-AllowSet.is
-    (ap (λ g. images g c.args.loans.now) c.put_grants.ensures) refl
-
-pub returns-in-Drop : goal.returns-in-Drop
-returns-in-Drop c =
-    arm (images c.args.grants.now c.args.loans.now) _ _ (raw_of c.args.t) _
-    c.in-Drop.is
-    c.drop_grant.ensures refl

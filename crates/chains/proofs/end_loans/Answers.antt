@@ -4,7 +4,7 @@ use borrow.Author.Tests.{not-false}
 use mathlib.Core.Path.{sym, ap, ap₂, ◌∙◌}
 use mathlib.Core.Bool.{Bool, not, ◌&&◌}
 use Rattle.layouts.specs.Layouts.{grant_bytes, held}
-use Rattle.chains.proofs.Ending.{all_stay, none_theirs, theirs_end}
+use Rattle.chains.proofs.Ending.{all_stay, none_theirs}
 use Rattle.chains.proofs.end_loans.Goals as goal
 
 pub returns-then-not-had : goal.returns-then-not-had
@@ -24,10 +24,3 @@ returns-then-not-ends c =
     (ap₂ (λ (x y : Bool). x && not y) c.if-not-had.false
     (sym c.holds.ensures ∙ c.if-holds.false))
     (not-false _ (sym c.ends.ensures ∙ c.if-not-ends.true))
-
-pub returns : goal.returns
-returns c =
-    theirs_end c.args.loans.now _ c.requires.loans.long _ _ _ _
-    (ap₂ (λ (x y : Bool). x && not y) c.if-not-had.false
-    (sym c.holds.ensures ∙ c.if-holds.false))
-    c.retain.ensures.0

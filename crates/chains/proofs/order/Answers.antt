@@ -2,12 +2,8 @@
 -- live there (`order-lent`, `order_done`).
 use borrow.Author.Rules.{rules}
 use mathlib.Core.Path.{sym, ◌∙◌}
-use Rattle.chains.proofs.Judging.{order_named, order-lent, order_done}
+use Rattle.chains.proofs.Judging.{order-lent, order_done}
 use Rattle.chains.proofs.order.Goals as goal
-
-pub returns-then-not-in_order : goal.returns-then-not-in_order
-returns-then-not-in_order c =
-    order_named c.args.grants.now c.args.loans.now (search rules) (search rules) (sym c.in_order.ensures ∙ c.if-not-in_order.true)
 
 pub returns-then-not-in_order-2 : goal.returns-then-not-in_order-2
 returns-then-not-in_order-2 c =

@@ -17,8 +17,3 @@ returns-in_err-ds c =
     c.from_residual-in_err-ds.ensures
     ∙ set-none c.args.s.now c.args.at
     (⊎_elim (λ h. omega arith) (λ h. omega (arith, ap length r, length-drop c.args.at c.args.s.now)) c.in_err-ds.ensures.lookup.0)
-
-pub returns : goal.returns
-returns c =
-    let r = part-drop c.args.s.now c.args.at c.in_ok-get.ensures.lookup.0.2 in
-    c.set_of.ensures ∙ rw (c.in_ok-ds.ensures.lookup.0.2, r)

@@ -2,11 +2,8 @@
 -- (`pass_room`).
 use native.Mathlib.Omega.{arith}
 use mathlib.Core.Path.{◌∙◌}
-use Rattle.lines.proofs.Hexadecimal.{digit_none, digit_some, pass_none, pass_end, pass_other, pass_room, pass_next}
+use Rattle.lines.proofs.Hexadecimal.{digit_none, digit_some, pass_end, pass_other, pass_room, pass_next}
 use Rattle.lines.proofs.set_of.Goals as goal
-
-pub loop-b-init : goal.loop-b-init
-loop-b-init c = pass_none _
 
 pub overflow_mul-v : goal.overflow_mul-v
 overflow_mul-v c = omega (arith, pass_room c.loop-b.invariant c.requires c.loop-b-test.true)

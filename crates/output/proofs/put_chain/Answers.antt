@@ -1,7 +1,6 @@
 -- The depth with its key, the key of the persons, and the persons are written one after another (`wrote_field`, `wrote_then`). At most
 -- eight are written, and the buffer has no more (`take_min`); 17, 5 and 31 bytes are 53.
-use lib.ListN.{length-take, take}
-use lib.Seq.{length-take-le}
+use lib.ListN.{take}
 use mir.Syntax.{w8}
 use borrow.Kind.Array.{good_length, e_int}
 use Rattle.output.specs.Output.{said_text, tail_text, persons}
@@ -9,29 +8,9 @@ use Rattle.lines.specs.Bytes.{bytes}
 use Rattle.lines.specs.Show.{shown}
 use Rattle.output.proofs.Written.{wrote_then, wrote_is, wrote_field, take_min}
 use native.Mathlib.Omega.{arith}
-use mathlib.Core.Path.{sym, ap, ◌∙◌}
+use mathlib.Core.Path.{ap, ◌∙◌}
 use Prim.Native.Nat.{ℕ}
 use Rattle.output.proofs.put_chain.Goals as goal
-
-pub slice_bounds-put_persons-end : goal.slice_bounds-put_persons-end
-slice_bounds-put_persons-end c =
-    sym (length-take-le c.in_buffer-n.result
-    c.args.via
-    (omega (
-      arith,
-      good_length (e_int w8) 8
-          c.args.via _ c.well_formed.1.1.1.1.0,
-    )))
-
-pub put_persons-requires : goal.put_persons-requires
-put_persons-requires c = (
-  omega arith,
-  omega (
-    arith,
-    length-take c.in_buffer-n.result
-        c.args.via,
-  ),
-)
 
 pub returns : goal.returns
 unfolding tail_text said_text

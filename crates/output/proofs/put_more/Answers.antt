@@ -1,10 +1,9 @@
 -- After i turns the first i persons are written, a comma before each (`more_next`), in at most 4 bytes each; at the end that is all, and
 -- seven of them take at most 28.
-use lib.Seq.{take_all}
 use Rattle.output.proofs.Written.{wrote_then, wrote_none, wrote_is, more_next}
 use Rattle.output.specs.Output.{more_persons}
 use native.Mathlib.Omega.{arith}
-use mathlib.Core.Path.{refl, sym, ap, ◌∙◌}
+use mathlib.Core.Path.{refl, sym, ◌∙◌}
 use Rattle.output.proofs.put_more.Goals as goal
 
 pub loop-person-init : goal.loop-person-init
@@ -17,7 +16,3 @@ loop-person-preserved c = (
       (wrote_then c.loop-person.invariant.1 c.put_next-p.ensures.0),
   omega arith,
 )
-
-pub returns : goal.returns
-returns c =
-    (wrote_is (ap more_persons (take_all c.loop-person.person-index c.args.via.now (omega arith))) c.loop-person.invariant.1, omega arith)

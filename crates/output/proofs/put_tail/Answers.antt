@@ -12,9 +12,6 @@ pub returns-in-Dashes : goal.returns-in-Dashes
 unfolding tail_text
 returns-in-Dashes c = rw c.in-Dashes.is (c.put_bytes.ensures, omega arith)
 
-pub returns-in-Chain : goal.returns-in-Chain
-returns-in-Chain c = rw c.in-Chain.is c.put_chain.ensures
-
 pub returns-in-Swept : goal.returns-in-Swept
 unfolding tail_text said_text
 returns-in-Swept c =

@@ -12,21 +12,6 @@ use Rattle.picking.specs.Runs.{Appended}
 use Rattle.picking.proofs.Runs.{picked_runs}
 use Rattle.picking.proofs.carrying.Goals as goal
 
-pub slice_bounds-pick_run-end : goal.slice_bounds-pick_run-end
-slice_bounds-pick_run-end c =
-    sym (length-take-le c.below-dated.result c.args.loans.now c.below-dated.ensures.within)
-
-pub pick_run-m-requires : goal.pick_run-m-requires
-pick_run-m-requires c =
-    let l = length-take-le c.below-dated.result c.args.loans.now c.below-dated.ensures.within in
-    omega (arith, l, c.below-dated.ensures.within, c.requires.0)
-
-pub pick_run-requires : goal.pick_run-requires
-pick_run-requires c =
-    let n = length-take-le c.below-dated.result c.args.loans.now c.below-dated.ensures.within in
-    simp (length-take, length-drop)
-    (omega (arith, n, c.below-dated.ensures.within, c.below-current.ensures.within, c.max-from.ensures, c.pick_run-m.ensures.count, c.requires.0))
-
 pub returns : goal.returns
 returns c =
     let below = subst (λ (x : ℕ). Below c.args.loans.now x c.below-current.result) c.least.ensures c.below-current.ensures in

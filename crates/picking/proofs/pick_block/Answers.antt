@@ -9,14 +9,6 @@ use Rattle.picking.specs.Runs.{of_key}
 use Rattle.picking.proofs.Picking.{keep-none, keep-every}
 use Rattle.picking.proofs.pick_block.Goals as goal
 
-pub returns-then-n-eq0 : goal.returns-then-n-eq0
-returns-then-n-eq0 c =
-    let before : List ℕ = take c.args.m c.args.out.now in
-    record {
-      count = omega arith;
-      are = sym (ap (λ (x : List ℕ). before ++ x) (keep-none _ _ (sym c.count_of-n.ensures ∙ omega arith)) ∙ append-nil before);
-    }
-
 pub returns : goal.returns
 returns c =
     record {

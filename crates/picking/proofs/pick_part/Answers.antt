@@ -23,11 +23,3 @@ loop-w-preserved c = (
   pick_more (of_key c.args.key) c.args.loans.now c.loop-w.w-index (omega arith) (take c.args.m c.args.out.now) c.loop-w.out c.loop-w.m
       (omega (arith, c.requires, c.loop-w.invariant.0, c.loop-w.invariant.1)) c.loop-w.invariant.2 _ (search rules),
 )
-
-pub returns : goal.returns
-returns c =
-    let e = take_all c.loop-w.w-index c.args.loans.now (omega arith) in
-    record {
-      count = omega (arith, c.loop-w.invariant.1);
-      are = c.loop-w.invariant.2 ∙ ap (λ (x : List ℕ). take c.args.m c.args.out.now ++ keep (of_key c.args.key) x) e;
-    }

@@ -36,9 +36,6 @@ loop-block-preserved c =
     c.pick_block-m.result (c.loop-block.block-index * 16) 16 (omega arith) c.loop-block.invariant.1 c.loop-block.invariant.2 a in
     rw k (search rules, r.0, r.1)
 
-pub pick_part-requires : goal.pick_part-requires
-pick_part-requires c = omega (arith, c.as_chunks.ensures.back_len, c.as_chunks.ensures.front_len)
-
 pub returns : goal.returns
 returns c =
     let n = length c.args.loans.now in

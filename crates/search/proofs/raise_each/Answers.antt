@@ -1,11 +1,10 @@
 -- After i turns each person's entry is raised to the greatest that the first i loans pass on, since a turn raises its borrower's entry
 -- and no other (`raise_more`); at the end that is all loans.
 use native.Mathlib.Omega.{arith}
-use mathlib.Core.Path.{◌≡◌, refl, ap, ◌∙◌}
-use Prim.Native.Nat.{ℕ, max}
+use mathlib.Core.Path.{refl, ap, ◌∙◌}
+use Prim.Native.Nat.{ℕ}
 use lib.ListN.{length, get_or, length-set}
 use Rattle.bits.specs.Sets.{most}
-use Rattle.delegation.specs.Search.{arriving}
 use Rattle.search.proofs.Rounds.{raise_more}
 use Rattle.search.proofs.raise_each.Goals as goal
 
@@ -20,11 +19,3 @@ loop-w-preserved c =
       rw c.raise.ensures (raise_more c.args.ls.now c.args.round.now c.loop-w.next (λ (q : ℕ). get_or c.args.next.now q 0) c.loop-w.w-index
           c.number-p.result p (c.loop-w.invariant.0 ∙ c.told-next) c.loop-w.invariant.1),
     )
-
-pub returns : goal.returns
-returns c =
-    let e : c.loop-w.w-index ≡ length c.args.ls.now = omega arith in
-    record {
-      long = c.loop-w.invariant.0;
-      entries = λ q h. c.loop-w.invariant.1 q h ∙ ap (λ (n : ℕ). max (get_or c.args.next.now q 0) (most (arriving c.args.ls.now c.args.round.now q) n)) e;
-    }

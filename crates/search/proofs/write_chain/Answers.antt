@@ -7,17 +7,8 @@ use mathlib.Core.Path.{◌≡◌, sym, ap, ◌∙◌}
 use Prim.Native.Nat.{suc, ◌+◌, ◌-◌}
 use lib.ListN.{length, get_or, drop, set, length-set}
 use Rattle.delegation.specs.Search.{lender_to, traced}
-use Rattle.search.proofs.Trace.{lender_lt, traced-step, traced-end, padding}
+use Rattle.search.proofs.Trace.{lender_lt, traced-step, traced-end}
 use Rattle.search.proofs.write_chain.Goals as goal
-
-pub loop-k-init : goal.loop-k-init
-loop-k-init c = (
-  search rules,
-  search rules,
-  ap length c.clear.ensures,
-  ap (◌++◌ (traced c.args.rounds.now c.args.ls.now c.args.at c.args.who.0))
-      (sym (ap (drop (suc c.args.at)) c.clear.ensures ∙ padding c.args.at (omega arith))),
-)
 
 pub loop-k-preserved : goal.loop-k-preserved
 loop-k-preserved c =
@@ -32,9 +23,6 @@ loop-k-preserved c =
       c.loop-k.invariant.3 ∙ traced-step c.args.rounds.now c.args.ls.now c.loop-k.chain c.loop-k.k c.loop-k.q.0 (omega arith) (omega arith)
           ∙ (λ j. traced c.args.rounds.now c.args.ls.now (c.loop-k.k - 1) (f j) ++ drop (suc (c.loop-k.k - 1)) (set c.loop-k.chain c.loop-k.k (p j))),
     )
-
-pub shape_of-chain : goal.shape_of-chain
-shape_of-chain c = simp length-set (omega arith)
 
 pub returns : goal.returns
 returns c =

@@ -6,14 +6,6 @@ use lib.ListN.{length}
 use Rattle.stream.proofs.close.Goals as goal
 use Rattle.stream.proofs.close.Goals.{then-out-lt256-via-then-out-lt256, then-out-lt256-via-else-out-lt256+then-lines-gt-LAST}
 
-pub returns-then-out-lt256 : goal.returns-then-out-lt256
-returns-then-out-lt256 c =
-    elim c.then-out-lt256.branch [
-      | then-out-lt256-via-then-out-lt256 w ↦ closes-none _ _ _ (small _ c.args.p.lines w.if-out-lt256.true)
-      | then-out-lt256-via-else-out-lt256+then-lines-gt-LAST w ↦
-          closes-none _ _ _ (many (length c.args.out.now) _ w.if-lines-gt-LAST.true)
-    ]
-
 pub returns-then-not-is_begun : goal.returns-then-not-is_begun
 returns-then-not-is_begun c =
     closes-last _ _ _ c.if-out-lt256.false

@@ -20,11 +20,6 @@ pub slice_bounds-rest-start : goal.slice_bounds-rest-start
 slice_bounds-rest-start c =
     (going_used c.loop-list.invariant c.loop-list.auto.out c.take_piece-t.ensures (some_left _ c.is_empty.ensures c.loop-list-test.true)).1
 
-pub loop-list-smaller : goal.loop-list-smaller
-loop-list-smaller c =
-    let b = going_used c.loop-list.invariant c.loop-list.auto.out c.take_piece-t.ensures (some_left _ c.is_empty.ensures c.loop-list-test.true) in
-    simp (length-take, length-drop) (omega (arith, b.0, b.1))
-
 pub loop-list-preserved : goal.loop-list-preserved
 loop-list-preserved c =
     let h = some_left _ c.is_empty.ensures c.loop-list-test.true in

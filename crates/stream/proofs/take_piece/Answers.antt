@@ -11,10 +11,6 @@ returns-then-not-fed c =
     c.feed-fed.ensures.0 c.feed-fed.ensures.1
     (not-true _ c.if-not-fed.true)
 
-pub overflow_add-result : goal.overflow_add-result
-overflow_add-result c =
-    omega (arith, c.requires.1)
-
 pub returns : goal.returns
 returns c =
     takes-ended _ _ _ _ _ _ _ _ c.feed-fed.result c.feed-fed.ensures.0 c.feed-fed.ensures.1 (not-false _ c.if-not-fed.false) _ _ _ _ c.none-none.ensures c.take_line-end.ensures

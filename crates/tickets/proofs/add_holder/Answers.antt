@@ -17,19 +17,6 @@ use Rattle.tickets.proofs.Admission.{stops, goes}
 use Rattle.tickets.proofs.Commands.{missing, found, changed-words}
 use Rattle.tickets.proofs.add_holder.Goals as goal
 
-pub returns-then-not-is_live : goal.returns-then-not-is_live
-returns-then-not-is_live c =
-    let m = machine_of c.args.image.now in
-    let e : lives m c.args.by.0 ≡ false = sym c.is_live.ensures ∙ c.if-not-is_live.true in
-    stops c.args.image.now (Pass c.args.by.0 c.args.to.0 c.args.number) 4 (rw e) (λ z. omega arith)
-
-pub returns-then-not-is_live-2 : goal.returns-then-not-is_live-2
-returns-then-not-is_live-2 c =
-    let m = machine_of c.args.image.now in
-    let e : lives m c.args.by.0 ≡ true = sym c.is_live.ensures ∙ c.if-not-is_live.false in
-    let f : lives m c.args.to.0 ≡ false = sym c.is_live-2.ensures ∙ c.if-not-is_live-2.true in
-    stops c.args.image.now (Pass c.args.by.0 c.args.to.0 c.args.number) 5 (rw (e, f)) (λ z. omega arith)
-
 pub returns-in_default : goal.returns-in_default
 returns-in_default c =
     let m = machine_of c.args.image.now in

@@ -3,8 +3,7 @@ use borrow.Author.Rules.{rules}
 use mathlib.Core.Path.{◌≡◌, sym, ap, ◌∙◌}
 use mathlib.Core.Bool.{true, false}
 use Prim.Native.Nat.{ℕ}
-use native.Mathlib.Omega.{arith}
-use borrow.Author.Tests.{eq-eqb, ne_eqb}
+use borrow.Author.Tests.{ne_eqb}
 use lib.ListN.{get_or}
 use lib.Dec.{eqb}
 use Rattle.bits.specs.Bits.{without_bit}
@@ -15,38 +14,8 @@ use Rattle.ticketing.specs.Image.{image_of, machine_of}
 use Rattle.tickets.specs.Places.{Ready}
 use Rattle.tickets.proofs.Fields.{of_item}
 use Rattle.tickets.proofs.Places.{live-swept}
-use Rattle.tickets.proofs.Admission.{stops, goes}
+use Rattle.tickets.proofs.Admission.{goes}
 use Rattle.tickets.proofs.drop_item.Goals as goal
-
-pub returns-then-not-is_live : goal.returns-then-not-is_live
-returns-then-not-is_live c =
-    let m = machine_of c.args.image.now in
-    let e : lives m c.args.by.0 ≡ false = sym c.is_live.ensures ∙ c.if-not-is_live.true in
-    stops c.args.image.now (Delete c.args.by.0 c.args.on.0) 4 (rw e) (λ z. omega arith)
-
-pub returns-then-not-is_live-2 : goal.returns-then-not-is_live-2
-returns-then-not-is_live-2 c =
-    let m = machine_of c.args.image.now in
-    let e : lives m c.args.by.0 ≡ true = sym c.is_live.ensures ∙ c.if-not-is_live.false in
-    let f : lives m c.args.on.0 ≡ false = sym c.is_live-2.ensures ∙ c.if-not-is_live-2.true in
-    stops c.args.image.now (Delete c.args.by.0 c.args.on.0) 5 (rw (e, f)) (λ z. omega arith)
-
-pub returns-then-number-eq0 : goal.returns-then-number-eq0
-returns-then-number-eq0 c =
-    let m = machine_of c.args.image.now in
-    let e : lives m c.args.by.0 ≡ true = sym c.is_live.ensures ∙ c.if-not-is_live.false in
-    let f : lives m c.args.on.0 ≡ true = sym c.is_live-2.ensures ∙ c.if-not-is_live-2.false in
-    let g : eqb c.args.on.0 0 ≡ true = eq-eqb c.args.on.0 0 (sym c.number.ensures ∙ c.if-number-eq0.true) in
-    stops c.args.image.now (Delete c.args.by.0 c.args.on.0) 7 (rw (e, f, g)) (λ z. omega arith)
-
-pub returns-then-not-is_holder : goal.returns-then-not-is_holder
-returns-then-not-is_holder c =
-    let m = machine_of c.args.image.now in
-    let e : lives m c.args.by.0 ≡ true = sym c.is_live.ensures ∙ c.if-not-is_live.false in
-    let f : lives m c.args.on.0 ≡ true = sym c.is_live-2.ensures ∙ c.if-not-is_live-2.false in
-    let g : eqb c.args.on.0 0 ≡ false = ne_eqb c.args.on.0 0 (λ z. c.if-number-eq0.false (c.number.ensures ∙ z)) in
-    let h : holds m c.args.by.0 c.args.on.0 0 ≡ false = ap (λ (r : ℕ). holds m c.args.by.0 c.args.on.0 r) (sym c.edit.ensures) ∙ sym c.is_holder.ensures ∙ c.if-not-is_holder.true in
-    stops c.args.image.now (Delete c.args.by.0 c.args.on.0) 17 (rw (e, f, g, h)) (λ z. omega arith)
 
 pub returns : goal.returns
 unfolding machine_of

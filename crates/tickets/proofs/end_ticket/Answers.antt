@@ -15,12 +15,6 @@ use Rattle.tickets.proofs.Admission.{stops, goes}
 use Rattle.tickets.proofs.Commands.{missing, found, edit_code, changed-words}
 use Rattle.tickets.proofs.end_ticket.Goals as goal
 
-pub returns-then-not-is_live : goal.returns-then-not-is_live
-returns-then-not-is_live c =
-    let m = machine_of c.args.image.now in
-    let e : lives m c.args.by.0 ≡ false = sym c.is_live.ensures ∙ c.if-not-is_live.true in
-    stops c.args.image.now (Remove c.args.by.0 c.args.number) 4 (rw e) (λ z. omega arith)
-
 pub returns-in_default : goal.returns-in_default
 returns-in_default c =
     let m = machine_of c.args.image.now in

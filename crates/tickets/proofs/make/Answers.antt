@@ -1,45 +1,19 @@
 -- The table's rows in their order; then the item joins the live set (`live-issued`) and a new ticket for it goes to the first free place.
 use borrow.Author.Rules.{rules}
-use mathlib.Core.Path.{◌≡◌, sym, ◌∙◌, ap₂, subst}
+use mathlib.Core.Path.{◌≡◌, sym, ◌∙◌, ap₂}
 use mathlib.Core.Bool.{true, false}
 use Prim.Native.Nat.{ℕ}
-use native.Mathlib.Omega.{arith}
 use lib.ListN.{get_or}
 use Rattle.bits.specs.Bits.{with_bit}
-use Rattle.model.specs.Answers.{number_of}
 use Rattle.ticketing.specs.declared.TicketCommand.TheVariants.{Create}
 use Rattle.ticketing.specs.Machine.{lives, issue}
 use Rattle.ticketing.specs.Image.{image_of, machine_of}
-use Rattle.model.proofs.Answers.{passed-on, refuses}
-use Rattle.ticketing.specs.Unit.{Judged}
 use Rattle.tickets.specs.Places.{Ready}
 use Rattle.tickets.proofs.Fields.{of_item}
 use Rattle.tickets.proofs.Places.{live-issued, live-room}
-use Rattle.tickets.proofs.Admission.{stops, goes}
+use Rattle.tickets.proofs.Admission.{goes}
 use Rattle.tickets.proofs.Commands.{room_code, room-left}
 use Rattle.tickets.proofs.make.Goals as goal
-
-pub returns-then-not-is_live : goal.returns-then-not-is_live
-returns-then-not-is_live c =
-    let m = machine_of c.args.image.now in
-    let e : lives m c.args.by.0 ≡ false = sym c.is_live.ensures ∙ c.if-not-is_live.true in
-    stops c.args.image.now (Create c.args.by.0 c.args.on.0) 4 (rw e) (λ z. omega arith)
-
-pub returns-then-is_live : goal.returns-then-is_live
-returns-then-is_live c =
-    let m = machine_of c.args.image.now in
-    let e : lives m c.args.by.0 ≡ true = sym c.is_live.ensures ∙ c.if-not-is_live.false in
-    let f : lives m c.args.on.0 ≡ true = sym c.is_live-2.ensures ∙ c.if-is_live.true in
-    stops c.args.image.now (Create c.args.by.0 c.args.on.0) 6 (rw (e, f)) (λ z. omega arith)
-
-pub returns-in_err-place : goal.returns-in_err-place
-returns-in_err-place c =
-    let m = machine_of c.args.image.now in
-    let e : lives m c.args.by.0 ≡ true = sym c.is_live.ensures ∙ c.if-not-is_live.false in
-    let f : lives m c.args.on.0 ≡ false = sym c.is_live-2.ensures ∙ c.if-is_live.false in
-    subst (λ r. Judged c.args.image.now (Create c.args.by.0 c.args.on.0) (number_of r) c.args.image.now)
-    (sym (passed-on _ _ c.from_residual.ensures (λ y i. i)))
-    (stops c.args.image.now (Create c.args.by.0 c.args.on.0) _ (rw (e, f) (sym c.in_err-place.ensures)) (refuses _))
 
 pub put_ticket-requires : goal.put_ticket-requires
 put_ticket-requires c =

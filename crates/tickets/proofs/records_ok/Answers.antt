@@ -10,9 +10,6 @@ use Rattle.ticketing.specs.Image.{machine_of}
 use Rattle.tickets.proofs.Numbers.{differ-listed, numbers-below}
 use Rattle.tickets.proofs.records_ok.Goals as goal
 
-pub returns-in_default : goal.returns-in_default
-returns-in_default c = sym (rw c.in_default.ensures)
-
 pub differ-requires : goal.differ-requires
 differ-requires c =
     let part = c.in-Some.ensures.2 in

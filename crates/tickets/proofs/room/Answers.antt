@@ -9,6 +9,3 @@ returns-in_default c = full_room c.args.image.now c.told-image is.TicketsFull re
 
 pub returns-then-image-eq-LAST : goal.returns-then-image-eq-LAST
 returns-then-image-eq-LAST c = spent_room c.args.image.now c.told-image c.in-Some.ensures is.NumbersSpent refl c.if-image-eq-LAST.true
-
-pub returns : goal.returns
-returns c = (c.in-Some.ensures.0, c.in-Some.ensures.1, c.if-image-eq-LAST.false)

@@ -1,12 +1,8 @@
 -- The masks of the item and of a person together hide a byte where both live, and show it whole where either is dead; so nothing is
 -- shown exactly where the block names living items only (`item_passes`).
 use native.Mathlib.Omega.{arith}
-use lib.ListN.{length-take, length-drop}
 use Rattle.grants.proofs.Blocks.{item_passes}
 use Rattle.grants.proofs.scan.item_ok.Goals as goal
-
-pub hides-requires : goal.hides-requires
-hides-requires c = simp (length-take, length-drop) (omega arith)
 
 pub returns : goal.returns
 returns c =

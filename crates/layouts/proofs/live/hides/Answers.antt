@@ -1,5 +1,4 @@
 -- The eight rows ORed show nothing under a mask where none of them does (`or_masked`).
-use native.Mathlib.Omega.{arith}
 use borrow.Author.Rules.{rules}
 use Prim.Native.Nat.{ℕ, ◌+◌, ◌*◌}
 use lib.Dec.{eqb}
@@ -24,8 +23,3 @@ loop-p-preserved c =
     let rows : c.fold-x.result ≡ or_below 8 byte
     = fold_from_yields_List _ (λ x i. bit_or x (byte i)) 0 c.fold-x.result c.fold-x.ensures.ran (YieldsList-from_range 0 8 8 refl refl) (λ x i y q k. search rules) in
     scan_more c.loop-p.bits _ c.loop-p.p-counter _ c.loop-p.invariant (ap (λ (x : ℕ). eqb (bit_and x m) 0) rows ∙ or_masked 8 byte m)
-
-pub returns : goal.returns
-returns c =
-    let e : c.loop-p.p-counter ≡ 64 = omega arith in
-    rw e at c.loop-p.invariant

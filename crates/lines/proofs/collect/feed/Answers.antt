@@ -1,10 +1,7 @@
 -- The bytes up to the line's end go past the buffer, and then only that is noted (`fed-past`); or they have room (`past_room`) and
 -- are put behind those held (`fed_more`).
-use lib.Seq.{length-take-le}
-use Rattle.lines.proofs.Chunks.{past_room, fed-past, fed_more}
-use native.Mathlib.Omega.{arith}
+use Rattle.lines.proofs.Chunks.{fed-past, fed_more}
 use mathlib.Core.Path.{sym, ◌∙◌}
-use lib.ListN.{length}
 use Rattle.lines.proofs.collect.feed.Goals as goal
 
 pub returns-then-is_past : goal.returns-then-is_past
@@ -12,16 +9,6 @@ returns-then-is_past c =
     fed-past c.args.buf.now c.args.p c.args.chunk.now _ _ c.line_end-n.ensures.0
     c.after_line-used.ensures
     (sym c.is_past.ensures ∙ c.if-is_past.true)
-
-pub slice_bounds-put_bytes-end : goal.slice_bounds-put_bytes-end
-slice_bounds-put_bytes-end c =
-    sym (length-take-le c.line_end-n.result
-    c.args.chunk.now (omega arith))
-
-pub put_bytes-next-requires : goal.put_bytes-next-requires
-put_bytes-next-requires c =
-    rw (length-take-le c.line_end-n.result c.args.chunk.now (omega arith))
-    (past_room (length c.args.buf.now) c.args.p _ (sym c.is_past.ensures ∙ c.if-is_past.false))
 
 pub returns : goal.returns
 returns c =

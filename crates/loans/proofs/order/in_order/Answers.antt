@@ -7,7 +7,7 @@ use mathlib.Core.Bool.{Bool, ◌&&◌}
 use mathlib.Core.List.{List}
 use Prim.Native.Nat.{ℕ}
 use lib.Dec.{leb}
-use borrow.Author.Tests.{eq-eqb, ne_eqb}
+use borrow.Author.Tests.{eq-eqb}
 use Rattle.bits.specs.Sets.{all}
 use Rattle.model.specs.Commands.{shifts, most_loans}
 use Rattle.delegation.specs.Loans.{rising, loan_words, header_in, count_of, shift_in, loans_in_order}
@@ -21,9 +21,6 @@ use Rattle.loans.proofs.order.in_order.Goals as goal
 limits : (t : List ℕ) (h : Header) (r : Bool) → r ≡ shifts h.shift && leb h.count most_loans → h ≡ header_in t
     → r ≡ shifts (shift_in t) && leb (count_of t) most_loans
 limits t h r e f = e ∙ ap (λ (g : Header). shifts g.shift && leb g.count most_loans) f
-
-pub returns-then-loans-ne-WORDS : goal.returns-then-loans-ne-WORDS
-returns-then-loans-ne-WORDS c = rw (ne_eqb _ _ c.if-loans-ne-WORDS.true)
 
 pub returns-then-not-in_limits : goal.returns-then-not-in_limits
 unfolding loans_in_order

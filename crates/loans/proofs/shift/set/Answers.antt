@@ -1,10 +1,7 @@
 -- A slice of another length stays; otherwise word 0 alone is written, with the header of the image at that shift (`shift-set`).
-use borrow.Author.Tests.{eq-eqb, ne_eqb}
+use borrow.Author.Tests.{eq-eqb}
 use Rattle.loans.proofs.Parts.{shift-set}
 use Rattle.loans.proofs.shift.set.Goals as goal
-
-pub returns-then-loans-ne-WORDS : goal.returns-then-loans-ne-WORDS
-returns-then-loans-ne-WORDS c = rw (ne_eqb _ _ c.if-loans-ne-WORDS.true)
 
 pub returns : goal.returns
 returns c =
