@@ -1,12 +1,8 @@
 -- Two runs: the loans with no last shift, and those from the first on that has the present shift or a later one. These are the loans
 -- that carry (`picked_runs`).
-use native.Mathlib.Omega.{arith}
-use mathlib.Core.Path.{sym}
 use Prim.Native.Nat.{ℕ, ◌-◌}
 use lib.ListN.{length, take, drop}
 use mathlib.Core.Path.{subst}
-use lib.ListN.{length-take, length-drop}
-use lib.Seq.{length-take-le}
 use Rattle.delegation.specs.Below.{Below}
 use Rattle.picking.specs.Runs.{Appended}
 use Rattle.picking.proofs.Runs.{picked_runs}

@@ -2,11 +2,11 @@
 -- (`keep-every`); otherwise the loans are picked one by one.
 use native.Mathlib.Omega.{arith}
 use mathlib.Core.Path.{sym, ap, ◌∙◌}
-use mathlib.Core.List.{List, ◌++◌, append-nil}
+use mathlib.Core.List.{List, ◌++◌}
 use Prim.Native.Nat.{ℕ}
 use lib.ListN.{take}
 use Rattle.picking.specs.Runs.{of_key}
-use Rattle.picking.proofs.Picking.{keep-none, keep-every}
+use Rattle.picking.proofs.Picking.{keep-every}
 use Rattle.picking.proofs.pick_block.Goals as goal
 
 pub returns : goal.returns

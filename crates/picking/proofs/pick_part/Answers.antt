@@ -2,11 +2,9 @@
 -- it counts (`pick_more`). The loop ends with i at the last.
 use borrow.Author.Rules.{rules}
 use native.Mathlib.Omega.{arith}
-use mathlib.Core.Path.{refl, sym, ap, ◌∙◌}
-use Prim.Native.Nat.{ℕ}
+use mathlib.Core.Path.{refl, sym}
 use lib.ListN.{take, length-set}
-use mathlib.Core.List.{List, ◌++◌, append-nil}
-use lib.Seq.{take_all}
+use mathlib.Core.List.{append-nil}
 use Rattle.bits.specs.Sets.{keep}
 use Rattle.picking.specs.Runs.{of_key}
 use Rattle.picking.proofs.Picking.{pick_more}

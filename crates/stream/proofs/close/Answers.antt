@@ -1,10 +1,8 @@
--- With too little room or too many lines nothing is written (`small`, `many`, `closes-none`). Otherwise it is the last line alone
+-- With too little room or too many lines nothing is written. Otherwise it is the last line alone
 -- (`closes-last`), or one for the line that has begun before it: 256 bytes are room for both (`closes-begun`).
-use Rattle.stream.proofs.Session.{small, many, closes-none, closes-last, closes-begun}
+use Rattle.stream.proofs.Session.{closes-last, closes-begun}
 use mathlib.Core.Path.{sym, ◌∙◌}
-use lib.ListN.{length}
 use Rattle.stream.proofs.close.Goals as goal
-use Rattle.stream.proofs.close.Goals.{then-out-lt256-via-then-out-lt256, then-out-lt256-via-else-out-lt256+then-lines-gt-LAST}
 
 pub returns-then-not-is_begun : goal.returns-then-not-is_begun
 returns-then-not-is_begun c =

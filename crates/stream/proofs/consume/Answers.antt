@@ -3,7 +3,7 @@
 use native.Mathlib.Omega.{arith}
 use mathlib.Core.Path.{sym, ◌∙◌}
 use Prim.Native.Nat.{◌-◌}
-use lib.ListN.{length, drop, length-take, length-drop}
+use lib.ListN.{length, drop, length-drop}
 use lib.Seq.{take_all}
 use Rattle.stream.proofs.Session.{some_left, none_left, going_start, going_used, going_next, going_full, going_last, going_end}
 use Rattle.stream.proofs.consume.Goals as goal

@@ -2,7 +2,6 @@
 -- is held (`takes-ended`). The run is below its last line, so counting does not wrap.
 use borrow.Author.Tests.{not-true, not-false}
 use Rattle.stream.proofs.Session.{takes_open, takes-ended}
-use native.Mathlib.Omega.{arith}
 use Rattle.stream.proofs.take_piece.Goals as goal
 
 pub returns-then-not-fed : goal.returns-then-not-fed
