@@ -68,6 +68,7 @@ abbrev pub FirstOf : (ℕ → Bool → Type 0) → Option ℕ → Type 0
 FirstOf P None = (k : ℕ) → k < most_tickets → P k false
 FirstOf P (Some n) = (n < most_tickets) × ((k : ℕ) → k < n → P k false) × P n true
 
+-- FirstOf as a record, so that a contract can name it: r is the first place that P says true of, or none
 pub record FirstPlace (P : ℕ → Bool → Type 0) (r : Option ℕ) : Type 0 where
   pub first : FirstOf P r
 

@@ -36,7 +36,8 @@ impl Tickets {
     pub const LAST: u64 = 4294967295;
 
     pub fn fresh() -> Tickets
-        ensures { (result.live ≡ get_or fresh_image 0 0) × (result.next ≡ get_or fresh_image 1 0) × (result.holders ≡ get_or fresh_image 3 0) }
+        ensures { (result.live ≡ get_or fresh_image 0 0) × (result.next ≡ get_or fresh_image 1 0)
+            × (result.holders ≡ get_or fresh_image 3 0) }
     {
         Tickets {
             live: 1,
