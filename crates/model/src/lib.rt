@@ -371,7 +371,9 @@ fn is_shift(n: u32) -> bool
 }
 
 impl Verb {
-    // Whether the table has that refusal for it, from number 5 on.
+    // Whether the table has that refusal for it, from number 5 on. Inlined, as `row` and `refuse` are: every command
+    // reads the table, and by calls it takes five times as long.
+    #[inline(always)]
     fn knows(self, refusal: Refusal) -> bool
         ensures { result ≡ knows self (refusal_number refusal) }
     {
@@ -399,6 +401,7 @@ impl Verb {
     }
 
     // A row of the table: the refusal of a command that knows it, where the state gives reason for it.
+    #[inline(always)]
     fn row(self, reason: bool, refusal: Refusal) -> Result<(), Refusal>
         ensures { result ≡ cond (knows self (refusal_number refusal) && reason) (Err refusal) (Ok tt) }
     {
@@ -545,6 +548,7 @@ impl Command {
 }
 
 // A refusal where it applies.
+#[inline(always)]
 fn refuse(applies: bool, refusal: Refusal) -> Result<(), Refusal>
     ensures { result ≡ cond applies (Err refusal) (Ok tt) }
 {

@@ -36,7 +36,8 @@ pub(crate) fn rows_ok(image: &[u8; Rows::BYTES]) -> bool
     (0..8).all(|k| items_live(image, k, &masks)) && (0..64).all(|who| person_ok(image, who, &masks))
 }
 
-// Whether a row has a right.
+// Whether a row has a right. Inlined, as `holds_any` is: a call takes as long as the row itself, and a fresh image has 63 dead persons.
+#[inline(always)]
 fn has_right(row: &[u8]) -> bool
     ensures { result ≡ not (eqb (or_below (length row.now) (λ i. get_or row.now i 0)) 0) }
 {
@@ -48,6 +49,7 @@ fn has_right(row: &[u8]) -> bool
 }
 
 // Whether the person has a right.
+#[inline(always)]
 fn holds_any(image: &[u8; Rows::BYTES], who: usize) -> bool
     requires { who < 64 }
     ensures { result ≡ is_subject rows image.now who }
