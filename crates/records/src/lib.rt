@@ -121,8 +121,8 @@ pub fn ask(places: usize, who: u32, on: u32, right: u32) -> Inquiry
 pub fn look(q: Inquiry, found: u32, t: Ticket) -> u32
     ensures { result ≡ found_of q found t }
 {
-    if t.item as u32 == q.on && t.right as u32 == q.right && t.holders.has(q.who) {
-        return 1;
+    if t.item as u32 != q.on || t.right as u32 != q.right || !t.holders.has(q.who) {
+        return found;
     }
-    found
+    1
 }
