@@ -7,9 +7,10 @@ use mathlib.Core.List.{List, [], ◌∷◌}
 use mathlib.Core.Bool.{Bool, true, false, not, ◌&&◌, ◌||◌, false≢true}
 use mathlib.Core.Logic.{⊎_elim}
 use lib.Arith.{lt_of_le-ne}
-use native.Mathlib.Nat.{pow-suc, pow-le-pow_right}
+use native.Mathlib.Nat.{min_comm, pow-suc, pow-le-pow_right}
 use lib.ListN.{length, take, drop, get_or, drop_of_length-le, length-drop}
-use Rattle.std.proofs.lemmas.List.{take_all}
+use Rattle.std.specs.Prelude.{min}
+use Rattle.std.proofs.lemmas.List.{take_all, length-take, take_min}
 use lib.Seq.{drop-cons}
 use lib.Pointwise.{pointwise}
 use denote.Ref.{Bor}
@@ -48,6 +49,11 @@ pointwise-starts (a ∷ w) (b ∷ l) = by_cases (eqb b a) (λ q. rw q (pointwise
 
 pub part-drop : (s : List ℕ) (at : ℕ) {x : List ℕ} → x ≡ take (length s - at) (drop at s) → x ≡ drop at s
 part-drop s at e = e ∙ take_all (length s - at) (drop at s) (omega (arith, length-drop at s))
+
+-- the first k bytes of such a part
+pub part-cut : (s : List ℕ) (at k : ℕ) {x : List ℕ} {n : ℕ} → x ≡ take (length s - at) (drop at s) → n ≡ min (length x) k
+    → take n x ≡ take k (drop at s)
+part-cut s at k {x} {n} e h = rw (h, min_comm (length x) k, take_min k x) (ap (take k) (part-drop s at e))
 
 -- the rest of a slice from a place on, none of it past the end
 pub rest-drop : (s : List ℕ) (at : ℕ) (g : Option (Bor (List ℕ))) (d r : Bor (List ℕ)) → IsGetRangeResult s at (length s) g → d.now ≡ []
@@ -89,6 +95,24 @@ digits-take s =
     (λ q.
     let l = ltb-false (prefix_len (λ b. not (not (is_ascii_digit b))) s) (length s) q in
     rw q (take_all (length s) s (omega arith) ∙ sym (take_all _ s l) ∙ prefix-digits s))
+
+-- ---- a number has at most ten digits, so eleven bytes tell all of it
+
+digits-part : (k : ℕ) (l : List ℕ) → digits (take k l) ≡ take k (digits l)
+digits-part zero l = refl
+digits-part (suc k) [] = refl
+digits-part (suc k) (b ∷ l) = by_cases (digit b) (λ q. rw q (ap (λ (l : List ℕ). b ∷ l) (digits-part k l))) (λ q. rw q)
+
+-- of the digits of eleven bytes: at most ten are all there are, and more are a part of more
+module _ (ds l : List ℕ) (e : ds ≡ digits (take 11 l)) where
+  few_of : min 11 (length (digits l)) ≡ length ds
+  few_of = sym (rw (e, digits-part 11 l) (length-take 11 (digits l)))
+
+  pub digits-all : length ds ≤ 10 → ds ≡ digits l
+  digits-all h = e ∙ digits-part 11 l ∙ take_all 11 (digits l) (omega (arith, few_of))
+
+  pub digits-more : 10 < length ds → 10 < length (digits l)
+  digits-more h = omega (arith, few_of)
 
 -- ---- the tests of a number, one at a time
 

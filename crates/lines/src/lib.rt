@@ -57,7 +57,9 @@ fn value_of(ds: &[u8]) -> u64
 fn read_number(s: &[u8], at: usize) -> Option<(u64, usize)>
     ensures { result ≡ number_at s.now at }
 {
-    let ds = digits(s.get(at..)?);
+    let rest = s.get(at..)?;
+    // Eleven digits are too many already, so no more are looked at.
+    let ds = digits(&rest[..rest.len().min(11)]);
     if ds.is_empty() || ds.len() > 10 {
         return None;
     }
