@@ -1,5 +1,4 @@
--- A refusal by numbers 1 to 3 has its number (`check_refused`); past them the image may be read at the place asked for
--- (`check_reads`), and its bit is the answer (`check_says`).
+-- A refusal by numbers 1 to 3 has its number (`check_refused`); past them the bit at the place asked for is the answer (`check_says`).
 use mathlib.Core.Path.{refl, sym, subst}
 use Rattle.model.proofs.Answers.{passed-on}
 use Rattle.std.specs.Prelude.{Err}
